@@ -1,4 +1,9 @@
+pub mod CellLends
+pub mod Doors
 pub mod Faults
 pub mod Kinds
+pub mod MemoryPlans
 pub mod Plan
+pub mod Rules
+pub mod Sounds
 pub mod Writes

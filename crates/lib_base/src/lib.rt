@@ -6,16 +6,22 @@
 //! `Sound` gives exactly the samples of the lists that it stands for.
 #![tactic(auto)]
 
+mod doors;
 mod files;
 mod outcomes;
 mod plans;
 mod sinks;
+mod sounds;
 mod sources;
+#[cfg(test)]
+mod tests;
 mod values;
 
+pub use doors::{Door, MemDoor};
 pub use files::{Kind, Span, Summary, kind_of};
 pub use outcomes::{Broken, Failed, Memory, Outside, Refused, Rule};
 pub use plans::FaultPlan;
 pub use sinks::{MemSink, Sink, write_all};
-pub use sources::{MemSource, Source};
-pub use values::{Bytes, Text};
+pub use sounds::{PcmSound, Scratch, Sound};
+pub use sources::{MemSource, ReadEnd, Source, Taken, read_up_to};
+pub use values::{Bytes, Cells, Text};

@@ -1,9 +1,11 @@
 //! What a call can answer besides its value.
-ghost use Rattle.std.specs.Prelude.{◌≡◌};
+ghost use Rattle.std.specs.Prelude.{◌≡◌, Some};
+ghost use Rattle.lib_base.specs.Rules.{rule_text};
 ghost use Rattle.lib_base.specs.declared.outcomes.Outside.TheVariants as outside;
 ghost use Rattle.lib_base.specs.declared.outcomes.Refused.TheVariants as refused;
 
 use std::alloc::{AllocError, AllocFailed};
+use std::fmt;
 
 /// Want of memory.
 #[derive(Clone, Copy, Debug, PartialEq, Eq)]
@@ -69,6 +71,20 @@ pub enum Rule {
     F(u8),
     C(u8),
     T(u8),
+}
+
+impl fmt::Display for Rule {
+    ghost output = { λ rule. Some (rule_text rule) };
+
+    fn fmt<W: fmt::Write>(&self, f: &mut fmt::Formatter<W>) -> fmt::Result {
+        match *self {
+            Rule::K(number) => write!(f, "K{number}"),
+            Rule::V(number) => write!(f, "V{number}"),
+            Rule::F(number) => write!(f, "F{number}"),
+            Rule::C(number) => write!(f, "C{number}"),
+            Rule::T(number) => write!(f, "T{number}"),
+        }
+    }
 }
 
 /// A file breaks this rule at this place, a byte offset from its start.

@@ -51,6 +51,21 @@ impl FaultPlan {
         Ok(())
     }
 
+    /// Counts a fault that no number asked for.
+    pub(crate) fn count_fault(&mut self)
+        ensures counts { self.new ≡ record self.old { faults = min (self.old.faults + 1) (2 ^ 64 - 1) } }
+        ensures later { self.old.faults ≤ self.new.faults }
+    {
+        self.faults = self.faults.saturating_add(1);
+    }
+
+    /// How many faults there were.
+    pub fn faults(&self) -> u64
+        ensures { result ≡ self.now.faults }
+    {
+        self.faults
+    }
+
     /// How many calls there were.
     pub fn calls(&self) -> u64
         ensures { result ≡ self.now.calls }

@@ -1,11 +1,11 @@
 //! Where bytes go to.
-ghost use Rattle.std.specs.Prelude.{◌≡◌, ◌≤◌, ◌<◌, ◌+◌, ◌-◌, ℕ, List, [], length, Option, Some, OnOk, OnErr, IfOk, IsErrOf, take};
+ghost use Rattle.std.specs.Prelude.{◌≡◌, ◌↔◌, ◌≤◌, ◌<◌, ◌+◌, ◌-◌, ℕ, List, [], Option, Some, OnOk, OnErr, IsErrOf};
 ghost use Rattle.std.specs.Io.KnownBytes.{WriteAppends, Appends};
 ghost use Rattle.lib_base.specs.Faults.{Rose};
 ghost use Rattle.lib_base.specs.Writes.{TakesSome, AppendsPart};
 
 use crate::plans::FaultPlan;
-use crate::{Failed, Memory, Outside};
+use crate::{Bytes, Outside};
 use std::alloc::Global;
 
 /// A sink of bytes.
@@ -47,10 +47,14 @@ pub struct MemSink {
 }
 
 impl MemSink {
+    ghost use Rattle.lib_base.specs.MemoryPlans.{sink_plan};
+    ghost use Rattle.lib_base.specs.Plan.{first_plan};
+
     /// An empty sink. `failing` numbers the writes that fail, from 1.
     pub fn new(alloc: Global, failing: Vec<u32>) -> MemSink
         ensures told { ⟦<MemSink as Sink>⟧.written result ≡ Some [] }
         ensures counted { ⟦<MemSink as Sink>⟧.faults result ≡ 0 }
+        ensures plan { sink_plan result ≡ first_plan failing.items }
     {
         MemSink {
             bytes: Vec::new(alloc),
@@ -64,14 +68,40 @@ impl MemSink {
     {
         self.bytes.as_slice()
     }
+
+    pub(crate) fn faults(&self) -> u64
+        ensures { result ≡ ⟦<MemSink as Sink>⟧.faults self.now }
+    {
+        self.plan.faults()
+    }
+
+    pub(crate) fn into_bytes(self) -> Bytes
+        ensures { ⟦<MemSink as Sink>⟧.written self ≡ Some result }
+    {
+        Bytes::of(self.bytes)
+    }
 }
 
 impl Sink for MemSink {
+    ghost use Rattle.lib_base.specs.MemoryPlans.{sink_plan};
+    ghost use Rattle.lib_base.specs.Plan.{CountsCall, IsDue};
+
     ghost written = { λ s. Some s.bytes.items };
 
     ghost faults = { λ s. s.plan.faults };
 
-    fn write(&mut self, piece: &[u8]) -> Result<usize, Outside> {
+    /// Fails exactly where the number of this call is due to fail. It may want memory at any other.
+    fn write(&mut self, piece: &[u8]) -> Result<usize, Outside>
+        ensures within { TakesSome result piece.now }
+        ensures content { WriteAppends (⟦<MemSink as Sink>⟧.written self.old)
+            (⟦<MemSink as Sink>⟧.written self.new) result piece.now }
+        ensures later { ⟦<MemSink as Sink>⟧.faults self.old ≤ ⟦<MemSink as Sink>⟧.faults self.new }
+        ensures cause { IsErrOf result Outside.Failed
+            → Rose (⟦<MemSink as Sink>⟧.faults self.old) (⟦<MemSink as Sink>⟧.faults self.new) }
+        ensures call { CountsCall (sink_plan self.old) (sink_plan self.new) }
+        ensures fails { IsErrOf result Outside.Failed ↔ IsDue (sink_plan self.new) }
+        ensures quiet { OnOk result (⟦<MemSink as Sink>⟧.faults self.new ≡ ⟦<MemSink as Sink>⟧.faults self.old) }
+    {
         if self.plan.call().is_err() {
             return Err(Outside::Failed);
         }

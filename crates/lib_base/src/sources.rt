@@ -1,11 +1,12 @@
 //! Where bytes come from.
-ghost use Rattle.std.specs.Prelude.{◌≡◌, ◌≤◌, ◌^◌, ◌++◌, ◌<◌, ◌+◌, ◌-◌, ℕ, List, length, Option, Some, OnErr, drop, take, []};
+ghost use Rattle.std.specs.Prelude.{OnOk, ◌≡◌, ◌↔◌, ◌≤◌, ◌^◌, ◌++◌, ◌<◌, ◌+◌, ◌-◌, ℕ, List, length, Option, Some, OnErr, IsErr, IfOk, MatchResult, vec_capacity, drop, take, []};
 ghost use Rattle.std.specs.Io.{ReadsAtMost};
-ghost use Rattle.std.specs.Io.KnownBytes.{ReadConsumes};
+ghost use Rattle.std.specs.Io.KnownBytes.{ReadConsumes, Consumes, IsAtEnd};
 ghost use Rattle.lib_base.specs.Faults.{Rose};
 
 use crate::plans::FaultPlan;
-use crate::{Bytes, Failed};
+use crate::{Bytes, Failed, Memory};
+use std::alloc::Global;
 
 /// A source of bytes.
 pub trait Source {
@@ -24,6 +25,100 @@ pub trait Source {
         ensures cause { OnErr result (Rose (faults self.old) (faults self.new)) };
 }
 
+/// Why a reading of many pieces ended.
+#[derive(Clone, Copy, Debug, PartialEq, Eq)]
+pub enum ReadEnd {
+    /// The source is at its end, before as many bytes came as were asked for.
+    End,
+    /// As many bytes came as were asked for.
+    Full,
+    /// A read failed, before as many bytes came as were asked for.
+    Fault,
+}
+
+/// What a reading of many pieces took, and why it ended.
+#[derive(Debug, Drop)]
+pub struct Taken {
+    pub bytes: Bytes,
+    pub end: ReadEnd,
+}
+
+const PIECE: usize = 4096;
+
+/// Takes at most `most` bytes from the source. The memory comes first, so that a refusal leaves the
+/// source as it was.
+pub fn read_up_to<S: Source>(alloc: Global, source: &mut S, most: usize) -> Result<Taken, Memory>
+    ensures refused { OnErr result (source.new ≡ source.old) }
+    ensures content { IfOk result (λ taken. Consumes (S.left source.old) (S.left source.new) taken.bytes) }
+    ensures within { IfOk result (λ taken. length taken.bytes ≤ most) }
+    ensures at_end { IfOk result (λ taken. taken.end ≡ ReadEnd.End → IsAtEnd (S.left source.new)) }
+    ensures short { IfOk result (λ taken. taken.end ≡ ReadEnd.End → length taken.bytes < most) }
+    ensures full { IfOk result (λ taken. taken.end ≡ ReadEnd.Full → length taken.bytes ≡ most) }
+    ensures cause { IfOk result (λ taken. taken.end ≡ ReadEnd.Fault
+        → Rose (S.faults source.old) (S.faults source.new)) }
+    ensures cut { IfOk result (λ taken. taken.end ≡ ReadEnd.Fault → length taken.bytes < most) }
+    ensures later { S.faults source.old ≤ S.faults source.new }
+{
+    let mut bytes = Vec::with_capacity(alloc, most)?;
+    let end = read_pieces(source, &mut [0; PIECE], &mut bytes, most);
+    Ok(Taken {
+        bytes: Bytes::of(bytes),
+        end,
+    })
+}
+
+/// Reads pieces through `buffer` until `bytes` holds `most` of them.
+fn read_pieces<S: Source>(
+    source: &mut S,
+    buffer: &mut [u8],
+    bytes: &mut Vec<u8>,
+    most: usize,
+) -> ReadEnd
+    requires buffer { 0 < length buffer.old }
+    requires empty { bytes.old.items ≡ [] }
+    requires room { most ≤ vec_capacity bytes.old }
+    ensures content { Consumes (S.left source.old) (S.left source.new) bytes.new.items }
+    ensures within { length bytes.new.items ≤ most }
+    ensures at_end { result ≡ ReadEnd.End → IsAtEnd (S.left source.new) }
+    ensures short { result ≡ ReadEnd.End → length bytes.new.items < most }
+    ensures full { result ≡ ReadEnd.Full → length bytes.new.items ≡ most }
+    ensures cause { result ≡ ReadEnd.Fault → Rose (S.faults source.old) (S.faults source.new) }
+    ensures cut { result ≡ ReadEnd.Fault → length bytes.new.items < most }
+    ensures later { S.faults source.old ≤ S.faults source.new }
+{
+    'pieces: while bytes.len() < most {
+        let room = buffer.len().min(most - bytes.len());
+        match read_onto(source, &mut buffer[..room], bytes) {
+            Ok(0) => return ReadEnd::End,
+            Ok(_) => {}
+            Err(Failed) => return ReadEnd::Fault,
+        }
+    }
+    ReadEnd::Full
+}
+
+/// Reads one piece, and appends what came to `bytes`.
+fn read_onto<S: Source>(
+    source: &mut S,
+    piece: &mut [u8],
+    bytes: &mut Vec<u8>,
+) -> Result<usize, Failed>
+    requires room { length bytes.old.items + length piece.old ≤ vec_capacity bytes.old }
+    ensures within { ReadsAtMost result piece.new }
+    ensures content { ReadConsumes (S.left source.old) (S.left source.new) result piece.new }
+    ensures appended { MatchResult result (λ count. bytes.new.items ≡ bytes.old.items ++ take count piece.new)
+        (λ _. bytes.new.items ≡ bytes.old.items) }
+    ensures capacity { vec_capacity bytes.old ≤ vec_capacity bytes.new }
+    ensures later { S.faults source.old ≤ S.faults source.new }
+    ensures cause { OnErr result (Rose (S.faults source.old) (S.faults source.new)) }
+{
+    let count = source.read(piece)?;
+    match bytes.extend_from_slice(piece.split_at(count).0) {
+        Ok(()) => Ok(count),
+        Err(_) => unreachable!(),
+    }
+}
+
 /// A source over bytes in memory, which tells what is left.
 #[derive(Debug, Drop)]
 pub struct MemSource {
@@ -34,10 +129,14 @@ pub struct MemSource {
 }
 
 impl MemSource {
+    ghost use Rattle.lib_base.specs.MemoryPlans.{source_plan};
+    ghost use Rattle.lib_base.specs.Plan.{first_plan};
+
     /// A source of these bytes. `failing` numbers the reads that fail, from 1.
     pub fn new(bytes: Bytes, failing: Vec<u32>) -> MemSource
         ensures told { ⟦<MemSource as Source>⟧.left result ≡ Some bytes }
         ensures counted { ⟦<MemSource as Source>⟧.faults result ≡ 0 }
+        ensures plan { source_plan result ≡ first_plan failing.items }
     {
         MemSource {
             bytes,
@@ -45,14 +144,35 @@ impl MemSource {
             plan: FaultPlan::new(failing),
         }
     }
+
+    pub(crate) fn faults(&self) -> u64
+        ensures { result ≡ ⟦<MemSource as Source>⟧.faults self.now }
+    {
+        self.plan.faults()
+    }
 }
 
 impl Source for MemSource {
+    ghost use Rattle.lib_base.specs.MemoryPlans.{source_plan};
+    ghost use Rattle.lib_base.specs.Plan.{CountsCall, IsDue};
+
     ghost left = { λ s. Some (drop s.at s.bytes) };
 
     ghost faults = { λ s. s.plan.faults };
 
-    fn read(&mut self, into: &mut [u8]) -> Result<usize, Failed> {
+    /// Fails exactly where the number of this call is due to fail.
+    fn read(&mut self, into: &mut [u8]) -> Result<usize, Failed>
+        ensures within { ReadsAtMost result into.new }
+        ensures content { ReadConsumes (⟦<MemSource as Source>⟧.left self.old)
+            (⟦<MemSource as Source>⟧.left self.new) result into.new }
+        ensures later { ⟦<MemSource as Source>⟧.faults self.old
+            ≤ ⟦<MemSource as Source>⟧.faults self.new }
+        ensures cause { OnErr result (Rose (⟦<MemSource as Source>⟧.faults self.old)
+            (⟦<MemSource as Source>⟧.faults self.new)) }
+        ensures call { CountsCall (source_plan self.old) (source_plan self.new) }
+        ensures fails { IsErr result ↔ IsDue (source_plan self.new) }
+        ensures quiet { OnOk result (⟦<MemSource as Source>⟧.faults self.new ≡ ⟦<MemSource as Source>⟧.faults self.old) }
+    {
         self.plan.call()?;
         let count = copy_from(&self.bytes, self.at, into);
         self.at += count;

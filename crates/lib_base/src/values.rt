@@ -1,4 +1,4 @@
-//! Bytes and texts that contracts see as lists.
+//! Bytes, cells and texts that contracts see as lists.
 ghost use Rattle.std.specs.Prelude.{◌≡◌, length, IfOk, string_bytes};
 
 use crate::Memory;
@@ -46,6 +46,59 @@ impl Bytes {
         ensures { result.now ≡ self.now }
     {
         self.items.as_slice()
+    }
+
+    pub fn len(&self) -> usize
+        ensures { result ≡ length self.now }
+    {
+        self.items.len()
+    }
+}
+
+/// Signed numbers that contracts see as a list.
+#[derive(Clone, Debug, Drop)]
+pub struct Cells {
+    items: Vec<i32>,
+}
+
+impl Model for Cells {
+    ghost use Rattle.std.specs.Prelude.{List, ℤ};
+
+    ghost Value = { List ℤ };
+
+    ghost view = { λ c. c.items.items };
+}
+
+impl Cells {
+    ghost use Rattle.std.specs.Borrow.{sem};
+    ghost use Rattle.lib_base.specs.CellLends.{lends_cells};
+
+    /// The cells of a vector, with no memory taken.
+    pub fn of(items: Vec<i32>) -> Cells
+        ensures { result ≡ items.items }
+    {
+        Cells { items }
+    }
+
+    /// The vector, given back with no memory taken.
+    pub fn into_vec(self) -> Vec<i32>
+        ensures { result.items ≡ self }
+    {
+        self.items
+    }
+
+    pub fn as_slice(&self) -> &[i32]
+        ensures { result.now ≡ self.now }
+    {
+        self.items.as_slice()
+    }
+
+    /// The cells for writing. What is left behind the result is what they end as.
+    pub fn as_mut_slice(&mut self) -> &mut [i32]
+        ensures* writes_back { sem 𝓛 (lends_cells self.entry result) }
+        ensures value { result.now ≡ self.old }
+    {
+        self.items.as_mut_slice()
     }
 
     pub fn len(&self) -> usize

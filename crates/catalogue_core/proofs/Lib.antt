@@ -1,0 +1,4 @@
+pub mod Changing
+pub mod Deciding
+pub mod Measuring
+pub mod Texts

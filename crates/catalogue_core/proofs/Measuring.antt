@@ -1,0 +1,16 @@
+-- The greatest size of a sample, one sample after another.
+use Rattle.std.proofs.Common.{◌≡◌, ◌<◌, ◌+◌, ℕ, List, length, take, get_or, max, arith}
+use Rattle.std.specs.Prelude.{ℤ, pos}
+use Rattle.std.proofs.lemmas.List.{take_more}
+use Rattle.file_model.specs.Sizes.{size_of, greatest_size}
+use Rattle.file_model.proofs.Sizes.{greatest_size-append}
+
+-- one sample more raises the greatest size to its own, where that is greater
+pub greatest_size-take_more : (xs : List ℤ) (i : ℕ) → i < length xs
+    → greatest_size (take (i + 1) xs) ≡ max (greatest_size (take i xs)) (size_of (get_or xs i (pos 0)))
+greatest_size-take_more xs i h = rw (take_more xs i (pos 0) h, greatest_size-append) (omega arith)
+
+-- so does the running greatest
+pub greatest_size-step : (xs : List ℤ) (i most size next : ℕ) → i < length xs → most ≡ greatest_size (take i xs)
+    → size ≡ size_of (get_or xs i (pos 0)) → next ≡ max most size → next ≡ greatest_size (take (i + 1) xs)
+greatest_size-step xs i most size next h was value is = rw (greatest_size-take_more xs i h, ← was, ← value) is

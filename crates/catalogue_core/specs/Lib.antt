@@ -1,0 +1,6 @@
+pub mod Committing
+pub mod Examining
+pub mod Imports
+pub mod Kept
+pub mod Opening
+pub mod Staging

@@ -1,0 +1,27 @@
+-- Which tables a library opens over.
+use Rattle.std.specs.Prelude.{◌≡◌, ◌==◌, ◌&&◌, Bool, length, Option, None, Some, Result, Ok, Err, if◌then◌else◌, ⊤}
+use Rattle.keeper_store.specs.declared.contents.Tables.{Tables}
+use Rattle.catalogue_core.specs.declared.libraries.BadRow.{BadRow}
+use Rattle.catalogue_core.specs.declared.libraries.Library.{Library}
+use Rattle.catalogue_core.specs.declared.libraries.OpenRefusal.{OpenRefusal}
+use Rattle.catalogue_core.specs.declared.libraries.OpenRefusal.TheVariants as refusal
+use Rattle.catalogue_core.specs.Kept.{kept_tables}
+
+-- no row in any table
+abbrev pub has_no_row : Tables → Bool
+has_no_row t = length t.albums == 0 && length t.recordings == 0 && length t.segments == 0 && length t.replies == 0
+
+-- each counter is 1
+abbrev pub has_first_counters : Tables → Bool
+has_first_counters t = t.next_album == 1 && t.next_recording == 1 && t.next_take == 1
+
+-- the first row that breaks a rule: rule 0 is that the library begins empty, with the counters 1
+abbrev pub first_bad : Tables → Option BadRow
+first_bad t = if has_first_counters t && has_no_row t then None else Some (record { table = 1; id = 1; rule = 0 })
+
+-- what opening over these tables may answer: the library of them, or their first bad row
+abbrev pub OpensOver : Tables → Result Library OpenRefusal → Type 0
+OpensOver t (Ok library) = (first_bad t ≡ None) × (kept_tables library ≡ t)
+OpensOver t (Err (refusal.BadRow row)) = first_bad t ≡ Some row
+OpensOver t (Err refusal.KeeperFault) = ⊤
+OpensOver t (Err refusal.Memory) = ⊤

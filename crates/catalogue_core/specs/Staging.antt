@@ -1,0 +1,49 @@
+-- What staging a request answers.
+use Rattle.std.specs.Prelude.{◌≡◌, ◌≢◌, ℕ, Some, Result, Ok, Err, ⊤}
+use Rattle.lib_base.specs.declared.outcomes.Memory.{Memory}
+use Rattle.lib_base.specs.Faults.{Rose}
+use Rattle.keeper_store.specs.Blobs.{Blobs, OthersKept}
+use Rattle.keeper_store.specs.Changes.{changed_all}
+use Rattle.library_model.specs.declared.messages.Command.{Command}
+use Rattle.library_model.specs.declared.messages.Command.TheVariants.{Import}
+use Rattle.library_model.specs.declared.messages.Request.{Request}
+use Rattle.library_model.specs.declared.messages.Reply.{Reply}
+use Rattle.library_model.specs.State.{State, IsValid}
+use Rattle.library_model.specs.Machine.{Decides, accepts, Answer}
+use Rattle.library_model.specs.Stands.{tables_of, HoldsFiles}
+use Rattle.catalogue_core.specs.declared.prepared.Prepared.{Prepared}
+use Rattle.catalogue_core.specs.declared.prepared.Staged.{Staged}
+use Rattle.catalogue_core.specs.declared.prepared.Staged.TheVariants.{Refused, Ready}
+
+-- the key holds the file of the request
+abbrev pub HoldsFileOf : Command → ℕ → Blobs → Type 0
+HoldsFileOf (Import file) key blobs = blobs key ≡ Some file
+
+-- The prepared change is that of the request, which is accepted: its batch leads to the tables of the next state, and
+-- with its file put, the vault holds the files of that state. Its reply is a 201.
+pub record Prepares (s : State) (request : Request) (p : Prepared) : Type 0 where
+  pub next : State
+  pub decides : Decides s request (accepts p.reply next)
+  pub valid : IsValid next
+  pub rows : changed_all p.batch.changes (tables_of s) ≡ tables_of next
+  pub files : (old new : Blobs) → HoldsFiles old s.recordings → OthersKept s.next_take old new
+      → HoldsFileOf request.command s.next_take new → HoldsFiles new next.recordings
+  pub granted : p.reply.status ≡ 201
+
+-- A refusal answers the request, with no change: 502 only where the vault's count rose, and never 503 or 504.
+pub record RefusesBy (s : State) (request : Request) (reply : Reply) (before now : ℕ) : Type 0 where
+  pub answers : Answer s request reply s
+  pub vault : reply.status ≡ 502 → Rose before now
+  pub keeper : reply.status ≢ 504
+  pub memory : reply.status ≢ 503
+
+-- what staging a request from s answers, where the vault's count of faults went from `before` to `now`
+abbrev pub StagedFrom : State → Request → ℕ → ℕ → Staged → Type 0
+StagedFrom s request before now (Refused reply) = RefusesBy s request reply before now
+StagedFrom s request before now (Ready p) = Prepares s request p
+
+-- P of what is ready
+abbrev pub IfReady : Result Staged Memory → (Prepared → Type 0) → Type 0
+IfReady (Ok (Ready p)) P = P p
+IfReady (Ok (Refused reply)) P = ⊤
+IfReady (Err e) P = ⊤

@@ -1,0 +1,70 @@
+//! Making a prepared change.
+ghost use Rattle.std.specs.Prelude.{◌≡◌, ◌≤◌, ◌+◌, length, ℕ};
+ghost use Rattle.keeper_store.specs.Goes.{Goes, RoseByOneAtMost};
+ghost use Rattle.keeper_store.specs.Changes.{changed, changed_all};
+ghost use Rattle.catalogue_core.specs.Committing.{Commits, Fits};
+ghost use Rattle.catalogue_core.specs.Kept.{kept_tables, HasRoom};
+
+use crate::{Library, Prepared};
+use keeper_store::{Change, Keeper, put_row};
+use lib_base::Outside;
+use library_model::Reply;
+
+/// Makes the change with one `apply` of the keeper, and answers its reply. A refusal of the keeper
+/// changes nothing, and is answered 504 for a fault that it counted, or 503 for want of memory. It
+/// takes no memory of its own.
+pub fn commit<D: Keeper>(library: &mut Library, ready: Prepared, keeper: &mut D) -> Reply
+    requires { Fits library.old ready }
+    ensures commits { Commits ready (kept_tables library.old) (kept_tables library.new) (D.faults keeper.old) (D.faults keeper.new) result }
+
+    // Where the library keeps the keeper's tables, it keeps them again.
+    ensures tables { Goes (λ old new. old ≡ kept_tables library.old → new ≡ kept_tables library.new)
+        (D.tables keeper.old) (D.tables keeper.new) }
+    ensures later { D.faults keeper.old ≤ D.faults keeper.new }
+    ensures applies { RoseByOneAtMost (D.applies keeper.old) (D.applies keeper.new) }
+{
+    let Prepared {
+        batch,
+        reply,
+        keeper_refusal,
+        memory_refusal,
+    } = ready;
+    match keeper.apply(&batch) {
+        Ok(()) => {
+            make_changes(library, batch.changes.into_vec());
+            reply
+        }
+        Err(Outside::Failed) => keeper_refusal,
+        Err(Outside::Memory) => memory_refusal,
+    }
+}
+
+/// Makes changes of which the first is made first, in the room that there is.
+fn make_changes(library: &mut Library, mut changes: Vec<Change>)
+    requires { HasRoom library.old (length changes.items) }
+    ensures { kept_tables library.new ≡ changed_all changes.items (kept_tables library.old) }
+{
+    while !changes.is_empty() {
+        make_change(library, changes.remove(0));
+    }
+}
+
+/// Makes one change, in the room that there is.
+fn make_change(library: &mut Library, change: Change)
+    requires { HasRoom library.old 1 }
+    ensures made { kept_tables library.new ≡ changed change (kept_tables library.old) }
+    ensures room { (more : ℕ) → HasRoom library.old (more + 1) → HasRoom library.new more }
+{
+    match change {
+        Change::Counters {
+            next_album,
+            next_recording,
+            next_take,
+        } => {
+            library.next_album = next_album;
+            library.next_recording = next_recording;
+            library.next_take = next_take;
+        }
+        Change::PutRecording(row) => put_row(&mut library.recordings, row),
+    }
+}

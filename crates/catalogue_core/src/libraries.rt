@@ -1,0 +1,64 @@
+//! The library: the rows that it keeps, and its opening.
+ghost use Rattle.std.specs.Prelude.{◌≡◌, ◌≤◌, IfOk, IfSome, IsErrOf};
+ghost use Rattle.lib_base.specs.Faults.{Rose};
+ghost use Rattle.keeper_store.specs.Goes.{Goes};
+ghost use Rattle.keeper_store.specs.Changes.{empty_tables};
+
+use crate::opening::{bad_row, library_of};
+use keeper_store::{Keeper, RecordingRow};
+use lib_base::Outside;
+use std::alloc::Global;
+
+/// A row that breaks a rule: the number of its table, its id there, and the rule's number.
+#[derive(Clone, Copy, Debug, PartialEq, Eq)]
+pub struct BadRow {
+    pub table: u8,
+    pub id: u64,
+    pub rule: u8,
+}
+
+/// Why a library isn't opened.
+#[derive(Clone, Copy, Debug, PartialEq, Eq)]
+pub enum OpenRefusal {
+    /// A fault, which the keeper has counted.
+    KeeperFault,
+    /// The first row that breaks a rule.
+    BadRow(BadRow),
+    /// Want of memory.
+    Memory,
+}
+
+/// The library. It keeps the rows of the tables, and stands for no file.
+#[derive(Debug, Drop)]
+pub struct Library {
+    pub(crate) alloc: Global,
+    pub(crate) next_album: u32,
+    pub(crate) next_recording: u32,
+    pub(crate) next_take: u32,
+    pub(crate) recordings: Vec<RecordingRow>,
+}
+
+impl Library {
+    ghost use Rattle.catalogue_core.specs.Kept.{kept_tables};
+    ghost use Rattle.catalogue_core.specs.Opening.{OpensOver};
+
+    /// Opens the library of the tables that the keeper loads. In this stage it begins empty.
+    pub fn open<D: Keeper>(alloc: Global, keeper: &mut D) -> Result<Library, OpenRefusal>
+        ensures opens { IfSome (D.tables keeper.old) (λ t. OpensOver t result) }
+        ensures begins { IfOk result (λ library. kept_tables library ≡ empty_tables) }
+        ensures tables { Goes (λ old new. new ≡ old) (D.tables keeper.old) (D.tables keeper.new) }
+        ensures later { D.faults keeper.old ≤ D.faults keeper.new }
+        ensures cause { IsErrOf result OpenRefusal.KeeperFault → Rose (D.faults keeper.old) (D.faults keeper.new) }
+        ensures applies { D.applies keeper.new ≡ D.applies keeper.old }
+    {
+        let tables = match keeper.load() {
+            Ok(tables) => tables,
+            Err(Outside::Failed) => return Err(OpenRefusal::KeeperFault),
+            Err(Outside::Memory) => return Err(OpenRefusal::Memory),
+        };
+        match bad_row(&tables) {
+            Some(row) => Err(OpenRefusal::BadRow(row)),
+            None => Ok(library_of(alloc, tables)),
+        }
+    }
+}

@@ -1,0 +1,27 @@
+//! A change that was decided, and for which all memory was taken.
+ghost use Rattle.std.specs.Prelude.{◌≡◌};
+ghost use Rattle.library_model.specs.Replies as model;
+
+use keeper_store::Batch;
+use library_model::Reply;
+
+/// A change that waits for its commit: its batch, its reply, and the replies to a keeper that
+/// refuses it.
+#[derive(Debug, Drop)]
+pub struct Prepared {
+    pub(crate) batch: Batch,
+    pub(crate) reply: Reply,
+    pub(crate) keeper_refusal: Reply,
+    pub(crate) memory_refusal: Reply,
+    ghost of_keeper: { keeper_refusal ≡ model.keeper_refusal },
+    ghost of_memory: { memory_refusal ≡ model.memory_refusal },
+}
+
+/// What staging a request gives.
+#[derive(Debug, Drop)]
+pub enum Staged {
+    /// The request is refused, with no change.
+    Refused(Reply),
+    /// The request is accepted, and its change waits for its commit.
+    Ready(Prepared),
+}

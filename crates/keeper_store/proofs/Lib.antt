@@ -1,0 +1,3 @@
+pub mod Changing
+pub mod Putting
+pub mod Worked

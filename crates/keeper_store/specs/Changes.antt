@@ -1,0 +1,36 @@
+-- The tables, and what changes make of them.
+use Rattle.std.specs.Prelude.{◌≡◌, List, [], ◌∷◌, Result, IfOk, OnOk, OnErr}
+use Rattle.keeper_store.specs.declared.contents.Tables.{Tables}
+use Rattle.keeper_store.specs.declared.contents.Change.{Change}
+use Rattle.keeper_store.specs.declared.contents.Change.TheVariants.{Counters, PutRecording}
+use Rattle.keeper_store.specs.Puts.{put, recording_less}
+
+-- no row, and each counter 1
+abbrev pub empty_tables : Tables
+empty_tables = record {
+  next_album = 1;
+  next_recording = 1;
+  next_take = 1;
+  albums = [];
+  recordings = [];
+  segments = [];
+  replies = [];
+}
+
+-- the tables after one change
+abbrev pub changed : Change → Tables → Tables
+changed (Counters album recording take) t = record t { next_album = album; next_recording = recording; next_take = take }
+changed (PutRecording row) t = record t { recordings = put recording_less row t.recordings }
+
+-- the tables after changes, of which the first is made first
+abbrev pub changed_all : List Change → Tables → Tables
+changed_all [] t = t
+changed_all (c ∷ cs) t = changed_all cs (changed c t)
+
+-- a load leaves the tables, and on Ok it gives them
+abbrev pub Loads : {E : Type 0} → Result Tables E → Tables → Tables → Type 0
+Loads r old new = (new ≡ old) × IfOk r (λ t. t ≡ old)
+
+-- on Ok all the changes were made, and a refusal left the tables
+abbrev pub Applies : {T E : Type 0} → List Change → Result T E → Tables → Tables → Type 0
+Applies changes r old new = OnOk r (new ≡ changed_all changes old) × OnErr r (new ≡ old)

@@ -1,0 +1,6 @@
+pub mod Blobs
+pub mod Changes
+pub mod Goes
+pub mod Memory
+pub mod Plans
+pub mod Puts

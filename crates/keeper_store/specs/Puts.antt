@@ -1,0 +1,27 @@
+-- Rows in the order of a test.
+use Rattle.std.specs.Prelude.{◌≡◌, Bool, true, false, List, [], ◌∷◌, if◌then◌else◌, nat_lt}
+use Rattle.std.specs.List.{AllByRecursion}
+use Rattle.keeper_store.specs.declared.row_types.RecordingRow.{RecordingRow}
+
+-- a row put in its place: before the first row that isn't less, and in the place of that row where it isn't greater either
+abbrev pub put : {A : Type 0} → (A → A → Bool) → A → List A → List A
+put less row [] = row ∷ []
+put less row (r ∷ rs) =
+    if less r row then r ∷ put less row rs
+    else if less row r then row ∷ r ∷ rs
+    else row ∷ rs
+
+-- recordings ascend by their ids
+abbrev pub recording_less : RecordingRow → RecordingRow → Bool
+recording_less a b = nat_lt a.id b.id
+
+-- a test of which row comes first
+pub record IsOrder {A : Type 0} (less : A → A → Bool) : Type 0 where
+  pub chain : (a b c : A) → less a b ≡ true → less b c ≡ true → less a c ≡ true
+  -- where neither of two rows comes first, what comes after the one comes after the other
+  pub level : (a b c : A) → less a b ≡ false → less b a ≡ false → less b c ≡ true → less a c ≡ true
+
+-- each row comes before all that stand behind it
+abbrev pub Ascends : {A : Type 0} → (A → A → Bool) → List A → Type 0
+Ascends less [] = Unit {0}
+Ascends less (r ∷ rs) = AllByRecursion (λ s. less r s ≡ true) rs × Ascends less rs

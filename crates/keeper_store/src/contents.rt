@@ -1,0 +1,76 @@
+//! The tables, and the changes that a batch makes to them.
+ghost use Rattle.std.specs.Prelude.{◌≡◌};
+
+use crate::{AlbumRow, RecordingRow, ReplyRow, Rows, SegmentRow};
+use std::alloc::{AllocError, Global};
+
+/// The rows of the library, and the counters that give the next album, recording and take.
+#[derive(Debug, Drop)]
+pub struct Tables {
+    pub next_album: u32,
+    pub next_recording: u32,
+    pub next_take: u32,
+    pub albums: Rows<AlbumRow>,
+    pub recordings: Rows<RecordingRow>,
+    pub segments: Rows<SegmentRow>,
+    pub replies: Rows<ReplyRow>,
+}
+
+impl Tables {
+    ghost use Rattle.keeper_store.specs.Changes.{empty_tables};
+
+    /// No row, and each counter 1. It takes no memory.
+    pub fn empty(alloc: Global) -> Tables
+        ensures { result ≡ empty_tables }
+    {
+        Tables {
+            next_album: 1,
+            next_recording: 1,
+            next_take: 1,
+            albums: Rows::of(Vec::new(alloc)),
+            recordings: Rows::of(Vec::new(alloc)),
+            segments: Rows::of(Vec::new(alloc)),
+            replies: Rows::of(Vec::new(alloc)),
+        }
+    }
+}
+
+impl Clone for Tables {
+    ghost is_clone = { λ tables copy. copy ≡ tables };
+
+    fn clone(&self) -> Result<Tables, AllocError> {
+        let albums = self.albums.clone()?;
+        let recordings = self.recordings.clone()?;
+        let segments = self.segments.clone()?;
+        let replies = self.replies.clone()?;
+        Ok(Tables {
+            next_album: self.next_album,
+            next_recording: self.next_recording,
+            next_take: self.next_take,
+            albums,
+            recordings,
+            segments,
+            replies,
+        })
+    }
+}
+
+/// One change of the tables. A put replaces the row of its id.
+#[derive(Clone, Debug, Drop)]
+pub enum Change {
+    Counters {
+        next_album: u32,
+        next_recording: u32,
+        next_take: u32,
+    },
+    PutRecording(RecordingRow),
+}
+
+/// Changes, of which the first is made first.
+pub type Changes = Rows<Change>;
+
+/// Changes that are made together or not at all.
+#[derive(Clone, Debug, Drop)]
+pub struct Batch {
+    pub changes: Changes,
+}

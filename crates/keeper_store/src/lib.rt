@@ -1,0 +1,20 @@
+//! What the library keeps: tables of rows under a keeper, and blobs of bytes in a vault.
+//!
+//! It promises that a batch of changes reaches the tables whole or not at all, that a call of a
+//! vault touches no key but its own, that each object counts its faults and answers a fault only
+//! where that count rose in the call, and that the objects in memory tell what they hold.
+#![tactic(auto)]
+
+mod contents;
+mod keepers;
+mod places;
+mod row_types;
+#[cfg(test)]
+mod tests;
+mod vaults;
+
+pub use contents::{Batch, Change, Changes, Tables};
+pub use keepers::{Keeper, MemKeeper};
+pub use places::put_row;
+pub use row_types::{AlbumRow, RecordingRow, ReplyRow, Rows, SegmentRow};
+pub use vaults::{MemVault, Vault};

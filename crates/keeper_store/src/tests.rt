@@ -1,0 +1,125 @@
+//! The objects in memory, called in turn.
+use crate::{
+    Batch, Change, Changes, Keeper, MemKeeper, MemVault, RecordingRow, Tables, Vault, put_row,
+};
+use lib_base::{Kind, Memory, Outside, Summary, Text};
+use std::alloc::Global;
+use std::test::Fail;
+
+fn recording(alloc: Global, id: u32, take: u32) -> Result<RecordingRow, Memory> {
+    let name = String::from_str(alloc, "take")?;
+    Ok(RecordingRow {
+        id,
+        album: None,
+        name: Text::of(name),
+        take,
+        kind: Kind::Wave,
+        channels: 2,
+        depth: 16,
+        digest: [0; 16],
+        summary: Summary {
+            frames: 0,
+            loudness: None,
+            range: None,
+            momentary: None,
+            short_term: None,
+            true_peak: None,
+            peak: 0,
+            gain: None,
+        },
+    })
+}
+
+fn batch(alloc: Global, last_take: u32) -> Result<Batch, Memory> {
+    let counters = Change::Counters {
+        next_album: 2,
+        next_recording: 10,
+        next_take: 9,
+    };
+    let mut changes = Vec::new(alloc);
+    changes.push(counters)?;
+    changes.push(Change::PutRecording(recording(alloc, 5, 1)?))?;
+    changes.push(Change::PutRecording(recording(alloc, 3, 2)?))?;
+    changes.push(Change::PutRecording(recording(alloc, 5, last_take)?))?;
+    Ok(Batch {
+        changes: Changes::of(changes),
+    })
+}
+
+fn ids_and_takes(alloc: Global, rows: &[RecordingRow]) -> Result<Vec<(u32, u32)>, Memory> {
+    let mut pairs = Vec::new(alloc);
+    for row in rows {
+        pairs.push((row.id, row.take))?;
+    }
+    Ok(pairs)
+}
+
+// The second and the fourth call fail, and leave the tables.
+#[test]
+fn keeper_makes_a_batch_whole_or_not_at_all(rt: HostRuntime) -> Result<(), Fail> {
+    let alloc = rt.alloc();
+    let failing = [2, 4].to_vec(alloc)?;
+    let mut keeper = MemKeeper::new(alloc, Tables::empty(alloc), failing);
+    assert_eq!(rt; keeper.apply(&batch(alloc, 8)?), Ok(()));
+    assert_eq!(rt; keeper.apply(&batch(alloc, 9)?), Err(Outside::Failed));
+    for fails in [false, true, false] {
+        let loaded = keeper.load();
+        if fails {
+            assert_eq!(rt; loaded.err(), Some(Outside::Failed));
+            continue;
+        }
+        let tables = loaded?;
+        let counters = (tables.next_album, tables.next_recording, tables.next_take);
+        assert_eq!(rt; counters, (2, 10, 9));
+        let pairs = ids_and_takes(alloc, tables.recordings.as_slice())?;
+        assert_eq!(rt; pairs.as_slice(), [(3, 2), (5, 8)].as_slice());
+    }
+    Ok(())
+}
+
+// The second call fails.
+#[test]
+fn vault_holds_bytes_by_key(rt: HostRuntime) -> Result<(), Fail> {
+    let alloc = rt.alloc();
+    let failing = [2].to_vec(alloc)?;
+    let mut vault = MemVault::new(alloc, failing);
+    assert_eq!(rt; vault.put(7, b"one"), Ok(()));
+    assert_eq!(rt; vault.put(7, b"two"), Err(Outside::Failed));
+    assert_eq!(rt; vault.put(7, b"three"), Ok(()));
+    assert_eq!(rt; vault.put(8, b""), Ok(()));
+    for (key, want) in [
+        (7, Some(b"three".as_slice())),
+        (8, Some(b"".as_slice())),
+        (9, None),
+    ] {
+        let held = vault.get(key)?;
+        assert_eq!(rt;
+            held.as_ref().map(|bytes| bytes.as_slice()),
+            want,
+            "under {key}"
+        );
+    }
+    assert_eq!(rt; vault.drop_blob(7), Ok(()));
+    assert_eq!(rt; vault.drop_blob(9), Ok(()));
+    for (key, holds) in [(7, false), (8, true)] {
+        assert_eq!(rt; vault.get(key)?.is_some(), holds, "under {key}");
+    }
+    assert_eq!(rt; vault.calls(), 11);
+    Ok(())
+}
+
+#[test]
+fn rows_go_to_their_places(rt: HostRuntime) -> Result<(), Fail> {
+    let alloc = rt.alloc();
+    let mut rows = Vec::new(alloc);
+    for (id, take) in [(5, 1), (3, 2), (9, 3), (5, 4), (1, 5)] {
+        rows.reserve(1)?;
+        put_row(&mut rows, recording(alloc, id, take)?);
+    }
+    let pairs = ids_and_takes(alloc, rows.as_slice())?;
+    assert_eq!(rt;
+        pairs.as_slice(),
+        [(1, 5), (3, 2), (5, 4), (9, 3)].as_slice()
+    );
+    Ok(())
+}

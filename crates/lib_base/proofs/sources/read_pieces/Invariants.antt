@@ -1,0 +1,14 @@
+use Rattle.std.proofs.Common.{length, ◌-◌, ◌≤◌, vec_capacity}
+use Rattle.std.specs.Io.KnownBytes.{Consumes}
+use Rattle.lib_base.proofs.sources.read_pieces.Given as goal
+
+abbrev pub invariant-pieces : goal.invariant-pieces
+invariant-pieces g l = record {
+  within : length l.bytes.items ≤ l.most;
+  room : l.most ≤ vec_capacity l.bytes;
+  content : Consumes (g.S.Source.left l.fn.source) (g.S.Source.left l.source) l.bytes.items;
+  later : g.S.Source.faults l.fn.source ≤ g.S.Source.faults l.source;
+}
+
+abbrev pub decreases-pieces : goal.decreases-pieces
+decreases-pieces g l = l.most - length l.bytes.items

@@ -1,0 +1,6 @@
+use Rattle.std.proofs.Common.{◌≡◌, false}
+use Rattle.lib_base.proofs.tests.serves_two_connections.Given as goal
+
+-- no connection is out between two turns
+abbrev pub invariant-loop-want : goal.invariant-loop-want
+invariant-loop-want g l = l.door.out ≡ false

@@ -1,0 +1,13 @@
+-- How a rule prints.
+use Rattle.std.specs.Prelude.{ℕ, List, ◌++◌, codes, false}
+use Rattle.std.specs.Fmt.{digits}
+use Rattle.lib_base.specs.declared.outcomes.Rule.{Rule}
+use Rattle.lib_base.specs.declared.outcomes.Rule.TheVariants.{K, V, F, C, T}
+
+-- the letter and the number in decimal, as `F28`
+abbrev pub rule_text : Rule → List ℕ
+rule_text (K n) = codes "K" ++ digits 10 false n
+rule_text (V n) = codes "V" ++ digits 10 false n
+rule_text (F n) = codes "F" ++ digits 10 false n
+rule_text (C n) = codes "C" ++ digits 10 false n
+rule_text (T n) = codes "T" ++ digits 10 false n

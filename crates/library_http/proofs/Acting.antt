@@ -1,0 +1,188 @@
+-- What staging and committing a request do to the world.
+use Rattle.std.proofs.Common.{◌≡◌, ◌≢◌, ◌≤◌, ◌+◌, ◌==◌, ℕ, Bool, true, false, [], ◌∷◌, Option, None, Some, refl, sym, ap, ◌∙◌, arith, if◌then◌else◌, inl, inr}
+use Rattle.std.proofs.lemmas.Bool.Decides.{nat_tests}
+use Rattle.lib_base.specs.Faults.{Rose}
+use Rattle.keeper_store.specs.Blobs.{Blobs, OthersKept}
+use Rattle.keeper_store.specs.Changes.{changed_all}
+use Rattle.keeper_store.specs.declared.contents.Tables.{Tables}
+use Rattle.keeper_store.specs.Goes.{Goes}
+use Rattle.library_model.specs.declared.messages.Reply.{Reply}
+use Rattle.library_model.specs.declared.messages.Request.{Request}
+use Rattle.library_model.specs.Machine.{accepts, as_decided, without_memory, keeper_failed, count_status}
+use Rattle.library_model.specs.Replies.{memory_refusal}
+use Rattle.library_model.specs.Stands.{tables_of}
+use Rattle.library_model.specs.State.{State}
+use Rattle.library_model.proofs.Imports.{HoldsFiles-kept}
+use Rattle.catalogue_core.specs.Committing.{Commits}
+use Rattle.catalogue_core.specs.declared.libraries.Library.{Library}
+use Rattle.catalogue_core.specs.declared.prepared.Prepared.{Prepared}
+use Rattle.catalogue_core.specs.Kept.{kept_tables, Keeps}
+use Rattle.catalogue_core.specs.Staging.{Prepares, RefusesBy, HoldsFileOf}
+use Rattle.library_http.specs.Sessions.{Acts, Counts, Leads}
+use Rattle.library_http.specs.World.{World, world, RoseBy}
+use Rattle.library_http.proofs.Goings.{Goes-weaker}
+use Rattle.library_http.proofs.ServingLemmas.{Leads-same}
+
+-- both facts hold where each does
+Goes-both : {A : Type 0} (P Q : A → A → Type 0) (a b : Option A) → Goes P a b → Goes Q a b → Goes (λ x y. P x y × Q x y) a b
+Goes-both P Q None b p q = tt
+Goes-both P Q (Some x) None p q = absurd p
+Goes-both P Q (Some x) (Some y) p q = (p, q)
+
+-- a reply of another status doesn't count
+count_status-other : (reply : Reply) (status : ℕ) → reply.status ≢ status → count_status status (reply ∷ []) ≡ 0
+count_status-other reply status differs = grind (arith, nat_tests)
+
+-- a reply of that status counts once
+count_status-same : (reply : Reply) (status : ℕ) → reply.status ≡ status → count_status status (reply ∷ []) ≡ 1
+count_status-same reply status same = grind (arith, nat_tests)
+
+-- a test of numbers that holds says that they are equal
+tested : (m n : ℕ) → (m == n) ≡ true → m ≡ n
+tested m n h = grind (arith, nat_tests)
+
+-- a count rises by one where a test holds, and else it only goes on
+rose_as : (b : Bool) (before now : ℕ) → (b ≡ true → Rose before now) → before ≤ now → RoseBy ((if b then 1 else 0) + 0) before now
+rose_as true before now rose later = let h : Rose before now = rose refl in omega arith
+rose_as false before now rose later = omega arith
+
+-- a count that only goes on rose by none
+RoseBy-none : (many before now : ℕ) → many ≡ 0 → before ≤ now → RoseBy many before now
+RoseBy-none many before now none later = omega arith
+
+-- a count that rose is one that rose by one
+RoseBy-one : (many before now : ℕ) → many ≡ 1 → RoseBy 1 before now → RoseBy many before now
+RoseBy-one many before now one rose = omega arith
+
+-- a reply that is neither 502 nor 504 asks for no fault
+Counts-neither : (reply : Reply) (w0 w1 : World) → reply.status ≢ 502 → reply.status ≢ 504 → w0.vault_faults ≤ w1.vault_faults
+    → w0.keeper_faults ≤ w1.keeper_faults → Counts (reply ∷ []) w0 w1
+Counts-neither reply w0 w1 vault keeper vault_later keeper_later = record {
+  vault = RoseBy-none _ _ _ (count_status-other reply 502 vault) vault_later;
+  keeper = RoseBy-none _ _ _ (count_status-other reply 504 keeper) keeper_later;
+}
+
+-- a number that is one is not another
+differs_from : (m n k : ℕ) → m ≡ n → n ≢ k → m ≢ k
+differs_from m n k is differs e = differs (sym is ∙ e)
+
+-- The library keeps what it kept, and the vault changed under the next take alone: the state stays.
+pub Leads-kept : (s : State) (lib0 lib2 : Library) (tables0 tables2 : Option Tables) (blobs0 blobs2 : Option Blobs) (kf0 kf2 vf0 vf2 : ℕ)
+    → Keeps lib0 s → kept_tables lib2 ≡ kept_tables lib0
+    → Goes (OthersKept (kept_tables lib0).next_take) blobs0 blobs2
+    → Goes (λ old new. old ≡ kept_tables lib0 → new ≡ kept_tables lib2) tables0 tables2
+    → Leads s s (world lib0 tables0 blobs0 kf0 vf0) (world lib2 tables2 blobs2 kf2 vf2)
+Leads-kept s lib0 lib2 tables0 tables2 blobs0 blobs2 kf0 kf2 vf0 vf2 keeps same others tables =
+    let take = ap (λ (t : Tables). t.next_take) keeps.rows in
+    record {
+      keeps = record { valid = keeps.valid; rows = same ∙ keeps.rows };
+      rows = Goes-weaker _ _ (λ old new f is. f (is ∙ sym keeps.rows) ∙ same ∙ keeps.rows) tables0 tables2 tables;
+      files = Goes-weaker _ _ (λ old new kept held. HoldsFiles-kept s old new keeps.valid held (rw take at kept)) blobs0 blobs2 others;
+    }
+
+-- a refusal acts with no change
+pub Acts-refused : (s : State) (request : Request) (reply : Reply) (lib0 lib1 : Library) (tables : Option Tables) (blobs0 blobs1 : Option Blobs)
+    (kf vf0 vf1 : ℕ) → Keeps lib0 s → kept_tables lib1 ≡ kept_tables lib0 → RefusesBy s request reply vf0 vf1 → vf0 ≤ vf1
+    → Goes (OthersKept (kept_tables lib0).next_take) blobs0 blobs1
+    → Goes (λ old new. old ≡ kept_tables lib0 → new ≡ kept_tables lib1) tables tables
+    → Acts s request reply (world lib0 tables blobs0 kf vf0) (world lib1 tables blobs1 kf vf1)
+Acts-refused s request reply lib0 lib1 tables blobs0 blobs1 kf vf0 vf1 keeps same refuses later others went = record {
+  next = s;
+  answers = refuses.answers;
+  leads = Leads-kept s lib0 lib1 tables tables blobs0 blobs1 kf kf vf0 vf1 keeps same others went;
+  counts = record {
+    vault = rose_as (reply.status == 502) vf0 vf1 (λ e. refuses.vault (tested reply.status 502 e)) later;
+    keeper = RoseBy-none _ _ _ (count_status-other reply 504 refuses.keeper) (omega arith);
+  };
+}
+
+-- want of memory acts with no change
+pub Acts-memory : (s : State) (request : Request) (lib0 lib1 : Library) (tables : Option Tables) (blobs0 blobs1 : Option Blobs)
+    (kf vf0 vf1 : ℕ) → Keeps lib0 s → kept_tables lib1 ≡ kept_tables lib0 → vf0 ≤ vf1
+    → Goes (OthersKept (kept_tables lib0).next_take) blobs0 blobs1
+    → Goes (λ old new. old ≡ kept_tables lib0 → new ≡ kept_tables lib1) tables tables
+    → Acts s request memory_refusal (world lib0 tables blobs0 kf vf0) (world lib1 tables blobs1 kf vf1)
+Acts-memory s request lib0 lib1 tables blobs0 blobs1 kf vf0 vf1 keeps same later others went = record {
+  next = s;
+  answers = record { way = without_memory; answers = (refl, refl) };
+  leads = Leads-kept s lib0 lib1 tables tables blobs0 blobs1 kf kf vf0 vf1 keeps same others went;
+  counts = Counts-neither memory_refusal _ _ (differs_from 503 503 502 refl (omega arith)) (differs_from 503 503 504 refl (omega arith)) later (omega arith);
+}
+
+-- a request that was not looked at acts with no change
+pub Acts-unread : (s : State) (request : Request) (w : World) → Keeps w.library s → Acts s request memory_refusal w w
+Acts-unread s request w keeps = record {
+  next = s;
+  answers = record { way = without_memory; answers = (refl, refl) };
+  leads = Leads-same s w keeps;
+  counts = Counts-neither memory_refusal w w (differs_from 503 503 502 refl (omega arith)) (differs_from 503 503 504 refl (omega arith)) (omega arith) (omega arith);
+}
+
+-- a change that was made acts as the verdict says
+Acts-made : (s : State) (request : Request) (p : Prepared) (reply : Reply) (lib0 lib1 lib2 : Library)
+    (tables0 tables2 : Option Tables) (blobs0 blobs2 : Option Blobs) (kf0 kf2 vf0 vf2 : ℕ)
+    → Keeps lib0 s → kept_tables lib1 ≡ kept_tables lib0 → Prepares s request p
+    → Goes (OthersKept (kept_tables lib0).next_take) blobs0 blobs2
+    → Goes (λ _ new. HoldsFileOf request.command (kept_tables lib0).next_take new) blobs0 blobs2
+    → vf0 ≤ vf2 → kf0 ≤ kf2
+    → Goes (λ old new. old ≡ kept_tables lib1 → new ≡ kept_tables lib2) tables0 tables2
+    → reply ≡ p.reply → kept_tables lib2 ≡ changed_all p.batch.changes (kept_tables lib1)
+    → Acts s request reply (world lib0 tables0 blobs0 kf0 vf0) (world lib2 tables2 blobs2 kf2 vf2)
+Acts-made s request p reply lib0 lib1 lib2 tables0 tables2 blobs0 blobs2 kf0 kf2 vf0 vf2 keeps same prepares others put vlater klater went is made =
+    let take = ap (λ (t : Tables). t.next_take) keeps.rows in
+    let rows : kept_tables lib2 ≡ tables_of prepares.next =
+    made ∙ ap (changed_all p.batch.changes) (same ∙ keeps.rows) ∙ prepares.rows in
+    let status : reply.status ≡ 201 = ap (λ (r : Reply). r.status) is ∙ prepares.granted in
+    record {
+      next = prepares.next;
+      answers = record { way = as_decided (accepts p.reply prepares.next); answers = (prepares.decides, is, refl) };
+      leads = record {
+        keeps = record { valid = prepares.valid; rows = rows };
+        rows = Goes-weaker _ _ (λ old new f old_is. f (old_is ∙ sym keeps.rows ∙ sym same) ∙ rows) tables0 tables2 went;
+        files = Goes-weaker _ _
+            (λ old new both held. prepares.files old new held (rw take at both.0) (rw take at both.1))
+            blobs0 blobs2 (Goes-both _ _ blobs0 blobs2 others put);
+      };
+      counts = Counts-neither reply _ _ (differs_from _ 201 502 status (omega arith)) (differs_from _ 201 504 status (omega arith)) vlater klater;
+    }
+
+-- what a commit answers acts
+pub Acts-committed : (s : State) (request : Request) (p : Prepared) (reply : Reply) (lib0 lib1 lib2 : Library)
+    (tables0 tables2 : Option Tables) (blobs0 blobs2 : Option Blobs) (kf0 kf2 vf0 vf2 : ℕ)
+    → Keeps lib0 s → kept_tables lib1 ≡ kept_tables lib0 → Prepares s request p
+    → Goes (OthersKept (kept_tables lib0).next_take) blobs0 blobs2
+    → Goes (λ _ new. HoldsFileOf request.command (kept_tables lib0).next_take new) blobs0 blobs2
+    → vf0 ≤ vf2 → kf0 ≤ kf2
+    → Goes (λ old new. old ≡ kept_tables lib1 → new ≡ kept_tables lib2) tables0 tables2
+    → Commits p (kept_tables lib1) (kept_tables lib2) kf0 kf2 reply
+    → Acts s request reply (world lib0 tables0 blobs0 kf0 vf0) (world lib2 tables2 blobs2 kf2 vf2)
+Acts-committed s request p reply lib0 lib1 lib2 tables0 tables2 blobs0 blobs2 kf0 kf2 vf0 vf2 keeps same prepares others put vlater klater went commits =
+    let back = Goes-weaker (λ old new. old ≡ kept_tables lib1 → new ≡ kept_tables lib2) (λ old new. old ≡ kept_tables lib0 → new ≡ kept_tables lib2)
+    (λ old new f is. f (is ∙ sym same)) tables0 tables2 went in
+    elim commits [
+      | inl h ↦ Acts-made s request p reply lib0 lib1 lib2 tables0 tables2 blobs0 blobs2 kf0 kf2 vf0 vf2 keeps same prepares others put vlater klater went h.0 h.1
+      | inr other ↦ elim other [
+        | inl h ↦
+            let status : reply.status ≡ 504 = ap (λ (r : Reply). r.status) h.0 in
+            record {
+              next = s;
+              answers = record {
+                way = keeper_failed (accepts p.reply prepares.next);
+                answers = (prepares.decides, tt, h.0, refl);
+              };
+              leads = Leads-kept s lib0 lib2 tables0 tables2 blobs0 blobs2 kf0 kf2 vf0 vf2 keeps (h.1 ∙ same) others back;
+              counts = record {
+                vault = RoseBy-none _ _ _ (count_status-other reply 502 (differs_from _ 504 502 status (omega arith))) vlater;
+                keeper = RoseBy-one _ _ _ (count_status-same reply 504 status) h.2;
+              };
+            }
+        | inr h ↦
+            let status : reply.status ≡ 503 = ap (λ (r : Reply). r.status) h.0 in
+            record {
+              next = s;
+              answers = record { way = without_memory; answers = (h.0, refl) };
+              leads = Leads-kept s lib0 lib2 tables0 tables2 blobs0 blobs2 kf0 kf2 vf0 vf2 keeps (h.1 ∙ same) others back;
+              counts = Counts-neither reply _ _ (differs_from _ 503 502 status (omega arith)) (differs_from _ 503 504 status (omega arith)) vlater klater;
+            }
+      ]
+    ]

@@ -1,0 +1,114 @@
+-- How a session ends, and what it did by then.
+use Rattle.std.proofs.Common.{◌≡◌, ◌≢◌, ◌≤◌, ◌+◌, ℕ, List, [], length, Option, None, Some, refl, sym, subst, true, inl, inr, arith}
+use Rattle.std.specs.Io.KnownBytes.{Consumes, IsAtEnd}
+use Rattle.lib_base.specs.declared.sources.ReadEnd.{ReadEnd}
+use Rattle.lib_base.specs.declared.sources.ReadEnd.TheVariants.{End, Full, Fault}
+use Rattle.library_model.specs.Framing.{input_limit, ended, unframeable}
+use Rattle.library_model.specs.Replies.{spelled, size_refusal, frame_refusal}
+use Rattle.library_model.specs.State.{State}
+use Rattle.catalogue_core.specs.Kept.{Keeps}
+use Rattle.library_http.specs.declared.serving.How.{How}
+use Rattle.library_http.specs.declared.serving.How.TheVariants.{Ended, Unframeable, SourceFault, SinkFault, Memory}
+use Rattle.library_http.specs.declared.serving.Stop.{Stop}
+use Rattle.library_http.specs.declared.serving.Stop.TheVariants.{AtEnd, AtRefusal, AtSinkFault, AtMemory}
+use Rattle.library_http.specs.Sessions.{EndsAfter, EndsBy, Session, Stops}
+use Rattle.library_http.specs.World.{World}
+use Rattle.library_http.proofs.Goings.{Appends-none}
+use Rattle.library_http.proofs.ServingLemmas.{Leads-same, Counts-none, Answered-too-long, BreaksOffAtEnd-refusal, Appends-ended, Appends-refused}
+
+-- nothing was taken
+pub Consumes-none : (a : Option (List ℕ)) → Consumes a a []
+Consumes-none None = tt
+Consumes-none (Some xs) = refl
+
+-- a session that found no memory to read into did nothing
+pub Session-unread : (start : State) (left text : Option (List ℕ)) (w : World) → Keeps w.library start
+    → Session start Memory 0 left left text text w w
+Session-unread start left text w keeps = (
+  [],
+  Consumes-none left,
+  inr (inr (record {
+    nothing = refl;
+    none = refl;
+    written = Appends-none text;
+    leads = Leads-same start w keeps;
+    counts = Counts-none w;
+  })),
+)
+
+-- an input that is too long is refused alone
+pub Session-too-long : (start : State) (how : How) (left rest text0 text1 : Option (List ℕ)) (input : List ℕ) (w : World)
+    → Keeps w.library start → length input ≡ input_limit + 1 → Consumes left rest input
+    → EndsBy how (spelled true size_refusal) text0 text1 → Session start how 0 left rest text0 text1 w w
+Session-too-long start Ended left rest text0 text1 input w keeps long took ends = absurd ends
+Session-too-long start SourceFault left rest text0 text1 input w keeps long took ends = absurd ends
+Session-too-long start Unframeable left rest text0 text1 input w keeps long took ends = (
+  input,
+  took,
+  omega arith,
+  (λ within. absurd (omega arith)),
+  size_refusal,
+  [],
+  ends,
+  Answered-too-long start input w keeps (omega arith),
+)
+Session-too-long start SinkFault left rest text0 text1 input w keeps long took ends = (
+  input,
+  took,
+  inr (BreaksOffAtEnd-refusal start input size_refusal 0 [] rest text0 text0 text1 w w
+      (λ within. absurd (omega arith)) (Answered-too-long start input w keeps (omega arith)) (Appends-none text0) ends),
+)
+Session-too-long start Memory left rest text0 text1 input w keeps long took ends = (
+  input,
+  took,
+  inr (inl (BreaksOffAtEnd-refusal start input size_refusal 0 [] rest text0 text0 text1 w w
+      (λ within. absurd (omega arith)) (Answered-too-long start input w keeps (omega arith)) (Appends-none text0) ends)),
+)
+
+-- a refusal that ends a whole input
+Session-refused : (start : State) (how : How) (n : ℕ) (left rest text0 text1 text2 : Option (List ℕ)) (input : List ℕ) (w0 w1 : World)
+    → length input ≤ input_limit → Consumes left rest input → IsAtEnd rest → Stops start input AtRefusal n text0 text1 w0 w1
+    → EndsBy how (spelled true frame_refusal) text1 text2 → Session start how n left rest text0 text2 w0 w1
+Session-refused start Ended n left rest text0 text1 text2 input w0 w1 short took at_end stops ends = absurd ends
+Session-refused start SourceFault n left rest text0 text1 text2 input w0 w1 short took at_end stops ends = absurd ends
+Session-refused start Unframeable n left rest text0 text1 text2 input w0 w1 short took at_end stops ends = (
+  input,
+  took,
+  omega arith,
+  (λ _. at_end),
+  frame_refusal,
+  stops.0,
+  Appends-refused text0 text1 text2 stops.0 frame_refusal stops.1 ends,
+  stops.2,
+)
+Session-refused start SinkFault n left rest text0 text1 text2 input w0 w1 short took at_end stops ends =
+    (input, took, inr (BreaksOffAtEnd-refusal start input frame_refusal n stops.0 rest text0 text1 text2 w0 w1 (λ _. at_end) stops.2 stops.1 ends))
+Session-refused start Memory n left rest text0 text1 text2 input w0 w1 short took at_end stops ends =
+    (input, took, inr (inl (BreaksOffAtEnd-refusal start input frame_refusal n stops.0 rest text0 text1 text2 w0 w1 (λ _. at_end) stops.2 stops.1 ends)))
+
+-- an end that writes nothing more
+ends_so : (start : State) (how so : How) (n : ℕ) (left rest text0 text1 text2 : Option (List ℕ)) (w0 w1 : World)
+    → how ≡ so → text2 ≡ text1 → Session start so n left rest text0 text1 w0 w1 → Session start how n left rest text0 text2 w0 w1
+ends_so start how so n left rest text0 text1 text2 w0 w1 is same session =
+    subst (λ (h : How). Session start h n left rest text0 text2 w0 w1) (sym is)
+    (subst (λ (t : Option (List ℕ)). Session start so n left rest text0 t w0 w1) (sym same) session)
+
+-- a session whose serving stopped, and that then ended
+pub Session-after : (start : State) (stop : Stop) (end : ReadEnd) (how : How) (n : ℕ) (left rest text0 text1 text2 : Option (List ℕ))
+    (input : List ℕ) (w0 w1 : World) → length input ≤ input_limit → Consumes left rest input → (end ≡ End → IsAtEnd rest) → end ≢ Full
+    → Stops start input stop n text0 text1 w0 w1 → EndsAfter stop end how text1 text2 → Session start how n left rest text0 text2 w0 w1
+Session-after start AtSinkFault end how n left rest text0 text1 text2 input w0 w1 short took at_end whole stops ends =
+    ends_so start how SinkFault n left rest text0 text1 text2 w0 w1 ends.0 ends.1 (input, took, inl stops)
+Session-after start AtMemory end how n left rest text0 text1 text2 input w0 w1 short took at_end whole stops ends =
+    ends_so start how Memory n left rest text0 text1 text2 w0 w1 ends.0 ends.1 (input, took, inl stops)
+Session-after start AtEnd Fault how n left rest text0 text1 text2 input w0 w1 short took at_end whole stops ends =
+    ends_so start how SourceFault n left rest text0 text1 text2 w0 w1 ends.0 ends.1 (input, took, short, ended, stops.0, stops.1, stops.2)
+Session-after start AtEnd End how n left rest text0 text1 text2 input w0 w1 short took at_end whole stops ends =
+    ends_so start how Ended n left rest text0 text1 text2 w0 w1 ends.0 ends.1
+    (input, took, at_end refl, stops.0, Appends-ended text0 text1 stops.0 stops.1, stops.2)
+Session-after start AtEnd Full how n left rest text0 text1 text2 input w0 w1 short took at_end whole stops ends = absurd (whole refl)
+Session-after start AtRefusal Fault how n left rest text0 text1 text2 input w0 w1 short took at_end whole stops ends =
+    ends_so start how SourceFault n left rest text0 text1 text2 w0 w1 ends.0 ends.1 (input, took, short, unframeable frame_refusal, stops.0, stops.1, stops.2)
+Session-after start AtRefusal End how n left rest text0 text1 text2 input w0 w1 short took at_end whole stops ends =
+    Session-refused start how n left rest text0 text1 text2 input w0 w1 short took (at_end refl) stops ends
+Session-after start AtRefusal Full how n left rest text0 text1 text2 input w0 w1 short took at_end whole stops ends = absurd (whole refl)

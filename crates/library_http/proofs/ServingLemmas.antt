@@ -1,0 +1,243 @@
+-- What a session did, put together from what its steps did.
+use Rattle.std.proofs.Common.{◌≡◌, ℕ, suc, ◌+◌, ◌<◌, ◌≤◌, ◌≢◌, inl, inr, true, false, Option, List, [], ◌∷◌, ◌++◌, length, refl, sym, ap, subst, arith, length-append}
+use Rattle.std.specs.Io.KnownBytes.{Appends, IsAtEnd}
+use Rattle.lib_base.specs.Writes.{AppendsPart}
+use Rattle.keeper_store.specs.Blobs.{Blobs}
+use Rattle.keeper_store.specs.declared.contents.Tables.{Tables}
+use Rattle.library_model.specs.declared.messages.Reply.{Reply}
+use Rattle.library_model.specs.declared.messages.Request.{Request}
+use Rattle.library_model.specs.Framing.{Begins, BeginNoRequest, EndsAs, RequestsOf, End, ended, unframeable, output, input_limit}
+use Rattle.library_model.specs.Machine.{Answers, count_status}
+use Rattle.library_model.specs.Replies.{spelled, spelled_all, size_refusal, frame_refusal}
+use Rattle.library_model.specs.Stands.{tables_of, HoldsFiles}
+use Rattle.library_model.specs.State.{State}
+use Rattle.library_model.proofs.Readings.{RequestsOf-unique}
+use Rattle.library_model.proofs.Runs.{BeginWith-push, Answers-push, spelled_all-push, count_status-push}
+use Rattle.catalogue_core.specs.Kept.{Keeps}
+use Rattle.library_http.specs.declared.serving.Stop.TheVariants.{AtEnd, AtRefusal}
+use Rattle.library_http.specs.Sessions.{Leads, Counts, Acts, Serves, Replied, PartlyReplied, Progress, Answered, BreaksOff, BreaksOffAtEnd, Stops}
+use Rattle.library_http.specs.World.{World, RoseBy}
+use Rattle.library_http.proofs.Goings.{Goes-then, Goes-same, Appends-then, Appends-then-part, Appends-none, RoseBy-then, RoseBy-none}
+
+-- ---- the library's way from state to state
+
+-- The library goes from one state to another, and from that to a third.
+pub Leads-then : (s t u : State) (w0 w1 w2 : World) → Leads s t w0 w1 → Leads t u w1 w2 → Leads s u w0 w2
+Leads-then s t u w0 w1 w2 first next = record {
+  keeps = next.keeps;
+  rows = Goes-then {A = Tables}
+      (λ old new. old ≡ tables_of s → new ≡ tables_of t)
+      (λ old new. old ≡ tables_of t → new ≡ tables_of u)
+      (λ old new. old ≡ tables_of s → new ≡ tables_of u)
+      (λ x y z p q h. q (p h)) w0.tables w1.tables w2.tables first.rows next.rows;
+  files = Goes-then {A = Blobs}
+      (λ old new. HoldsFiles old s.recordings → HoldsFiles new t.recordings)
+      (λ old new. HoldsFiles old t.recordings → HoldsFiles new u.recordings)
+      (λ old new. HoldsFiles old s.recordings → HoldsFiles new u.recordings)
+      (λ x y z p q h. q (p h)) w0.blobs w1.blobs w2.blobs first.files next.files;
+}
+
+-- The library that keeps a state stays there.
+pub Leads-same : (s : State) (w : World) → Keeps w.library s → Leads s s w w
+Leads-same s w keeps = record {
+  keeps = keeps;
+  rows = Goes-same {A = Tables} (λ old new. old ≡ tables_of s → new ≡ tables_of s) (λ x h. h) w.tables;
+  files = Goes-same {A = Blobs} (λ old new. HoldsFiles old s.recordings → HoldsFiles new s.recordings) (λ x h. h) w.blobs;
+}
+
+-- ---- counts of faults
+
+-- Replies and their faults, and then one more reply and its own.
+pub Counts-then : (replies : List Reply) (reply : Reply) (w0 w1 w2 : World) → Counts replies w0 w1
+    → Counts (reply ∷ []) w1 w2 → Counts (replies ++ reply ∷ []) w0 w2
+Counts-then replies reply w0 w1 w2 first next = record {
+  vault = RoseBy-push 502 replies reply w0.vault_faults w1.vault_faults w2.vault_faults first.vault next.vault;
+  keeper = RoseBy-push 504 replies reply w0.keeper_faults w1.keeper_faults w2.keeper_faults first.keeper next.keeper;
+} where
+  RoseBy-push : (status : ℕ) (replies : List Reply) (reply : Reply) (x y z : ℕ) → RoseBy (count_status status replies) x y
+      → RoseBy (count_status status (reply ∷ [])) y z → RoseBy (count_status status (replies ++ reply ∷ [])) x z
+  RoseBy-push status replies reply x y z p q =
+      let more : count_status status (replies ++ reply ∷ []) ≡ count_status status replies + count_status status (reply ∷ []) =
+      omega (arith, count_status-push status replies reply) in
+      subst (λ (n : ℕ). RoseBy n x z) (sym more)
+      (RoseBy-then (count_status status replies) (count_status status (reply ∷ [])) x y z p q)
+
+-- No reply, and no fault.
+pub Counts-none : (w : World) → Counts [] w w
+Counts-none w = record { vault = RoseBy-none w.vault_faults; keeper = RoseBy-none w.keeper_faults }
+
+-- ---- requests that were answered
+
+-- No request was answered yet.
+pub Serves-none : (start : State) (bytes : List ℕ) (w : World) → Keeps w.library start → Serves start bytes bytes [] w w
+Serves-none start bytes w keeps = record {
+  requests = [];
+  state = start;
+  begins = refl;
+  answers = refl;
+  leads = Leads-same start w keeps;
+  counts = Counts-none w;
+}
+
+-- Requests were answered, and then the next one.
+pub Serves-push : (start : State) (bytes rest later : List ℕ) (replies : List Reply) (request : Request)
+    (w0 w1 w2 : World) (serves : Serves start bytes rest replies w0 w1) → Begins rest request later → (reply : Reply)
+    → Acts serves.state request reply w1 w2 → Serves start bytes later (replies ++ reply ∷ []) w0 w2
+Serves-push start bytes rest later replies request w0 w1 w2 serves begins reply acts = record {
+  requests = serves.requests ++ request ∷ [];
+  state = acts.next;
+  begins = BeginWith-push bytes serves.requests rest later request serves.begins begins;
+  answers = Answers-push start serves.state acts.next serves.requests replies request reply serves.answers acts.answers;
+  leads = Leads-then start serves.state acts.next w0 w1 w2 serves.leads acts.leads;
+  counts = Counts-then replies reply w0 w1 w2 serves.counts acts.counts;
+}
+
+-- As many requests were answered as there are replies.
+pub Answers-length : (s last : State) (requests : List Request) (replies : List Reply)
+    → Answers s requests replies last → length requests ≡ length replies
+Answers-length s last [] [] answers = refl
+Answers-length s last (request ∷ requests) (reply ∷ replies) answers =
+    ap suc (Answers-length answers.0 last requests replies answers.2)
+Answers-length s last [] (reply ∷ replies) answers = absurd answers
+Answers-length s last (request ∷ requests) [] answers = absurd answers
+
+-- Where what is left ends the input, all its requests were answered.
+pub Serves-Answered : (start : State) (input rest : List ℕ) (end : End) (replies : List Reply) (w0 w1 : World)
+    → length input ≤ input_limit → Serves start input rest replies w0 w1 → EndsAs rest end
+    → Answered start input end (length replies) replies w0 w1
+Serves-Answered start input rest end replies w0 w1 short serves ends =
+    let reads : RequestsOf input serves.requests end = inl (short, (rest, serves.begins, ends)) in
+    record {
+      requests = serves.requests;
+      state = serves.state;
+      reads = reads;
+      only = λ others other x. RequestsOf-unique input others serves.requests other end x reads;
+      answers = serves.answers;
+      counted = sym (Answers-length start serves.state serves.requests replies serves.answers);
+      leads = serves.leads;
+      counts = serves.counts;
+    }
+
+-- ---- replies that were written
+
+-- No request was answered yet, and nothing was written.
+pub Progress-none : (start : State) (bytes : List ℕ) (text : Option (List ℕ)) (w : World) → Keeps w.library start
+    → Progress start bytes bytes 0 text text w w
+Progress-none start bytes text w keeps = record {
+  replies = [];
+  serves = Serves-none start bytes w keeps;
+  counted = refl;
+  written = Appends-none text;
+}
+
+-- Requests were answered, and then the next one, and its reply was written.
+pub Progress-push : (start : State) (bytes rest later : List ℕ) (n : ℕ) (text0 text1 text2 : Option (List ℕ))
+    (request : Request) (w0 w1 w2 : World) (progress : Progress start bytes rest n text0 text1 w0 w1)
+    → Begins rest request later → Replied progress.serves.state request text1 text2 w1 w2
+    → Progress start bytes later (n + 1) text0 text2 w0 w2
+Progress-push start bytes rest later n text0 text1 text2 request w0 w1 w2 progress begins replied =
+    let longer : length (progress.replies ++ replied.reply ∷ []) ≡ length progress.replies + length (replied.reply ∷ []) =
+    length-append progress.replies (replied.reply ∷ []) in
+    let counted : n ≡ length progress.replies = progress.counted in
+    record {
+      replies = progress.replies ++ replied.reply ∷ [];
+      serves = Serves-push start bytes rest later progress.replies request w0 w1 w2 progress.serves begins
+          replied.reply replied.acts;
+      counted = omega (arith, longer, counted);
+      written = subst (Appends text0 text2) (sym (spelled_all-push progress.replies replied.reply))
+          (Appends-then text0 text1 text2 (spelled_all progress.replies) (spelled false replied.reply)
+          progress.written replied.written);
+    }
+
+-- ---- where serving stops
+
+-- It stops at the end where nothing is left.
+pub Progress-Stops-end : (start : State) (input rest : List ℕ) (n : ℕ) (text0 text1 : Option (List ℕ)) (w0 w1 : World)
+    → length input ≤ input_limit → Progress start input rest n text0 text1 w0 w1 → rest ≡ []
+    → Stops start input AtEnd n text0 text1 w0 w1
+Progress-Stops-end start input rest n text0 text1 w0 w1 short progress ends = (
+  progress.replies,
+  progress.written,
+  subst (λ (k : ℕ). Answered start input ended k progress.replies w0 w1) (sym progress.counted)
+      (Serves-Answered start input rest ended progress.replies w0 w1 short progress.serves ends),
+)
+
+-- It stops at a refusal where what is left begins no request.
+pub Progress-Stops-refusal : (start : State) (input rest : List ℕ) (n : ℕ) (text0 text1 : Option (List ℕ)) (w0 w1 : World)
+    → length input ≤ input_limit → Progress start input rest n text0 text1 w0 w1 → (rest ≢ []) × BeginNoRequest rest
+    → Stops start input AtRefusal n text0 text1 w0 w1
+Progress-Stops-refusal start input rest n text0 text1 w0 w1 short progress ends = (
+  progress.replies,
+  progress.written,
+  subst (λ (k : ℕ). Answered start input (unframeable frame_refusal) k progress.replies w0 w1) (sym progress.counted)
+      (Serves-Answered start input rest (unframeable frame_refusal) progress.replies w0 w1 short progress.serves
+      (ends.0, ends.1, refl)),
+)
+
+-- It breaks off where the next reply was written in part.
+pub Progress-BreaksOff : (start : State) (bytes rest later : List ℕ) (n : ℕ) (text0 text1 text2 : Option (List ℕ))
+    (request : Request) (w0 w1 w2 : World) → length bytes ≤ input_limit
+    → (progress : Progress start bytes rest n text0 text1 w0 w1) → Begins rest request later
+    → PartlyReplied progress.serves.state request text1 text2 w1 w2 → BreaksOff start bytes n text0 text2 w0 w2
+Progress-BreaksOff start bytes rest later n text0 text1 text2 request w0 w1 w2 within progress begins partly =
+    let more = Appends-then-part text0 text1 text2 (spelled_all progress.replies) (spelled false partly.reply) progress.written partly.written in
+    record {
+      within = within;
+      replies = progress.replies;
+      reply = partly.reply;
+      rest = later;
+      serves = Serves-push start bytes rest later progress.replies request w0 w1 w2 progress.serves begins partly.reply partly.acts;
+      part = more.0;
+      unwritten = more.1;
+      cut = more.2;
+      written = more.3;
+      counted = progress.counted;
+    }
+
+-- ---- the end of a session
+
+-- An input that is too long has no requests, and ends by its refusal.
+pub Answered-too-long : (start : State) (input : List ℕ) (w : World) → Keeps w.library start
+    → input_limit < length input → Answered start input (unframeable size_refusal) 0 [] w w
+Answered-too-long start input w keeps long =
+    let reads : RequestsOf input [] (unframeable size_refusal) = inr (long, refl, refl) in
+    record {
+      requests = [];
+      state = start;
+      reads = reads;
+      only = λ others other x. RequestsOf-unique input others [] other (unframeable size_refusal) x reads;
+      answers = refl;
+      counted = refl;
+      leads = Leads-same start w keeps;
+      counts = Counts-none w;
+    }
+
+-- A session breaks off where all requests were answered, and the refusal that ends it was written in part.
+pub BreaksOffAtEnd-refusal : (start : State) (input : List ℕ) (reply : Reply) (n : ℕ) (replies : List Reply)
+    (left text0 text1 text2 : Option (List ℕ)) (w0 w1 : World) → (length input ≤ input_limit → IsAtEnd left)
+    → Answered start input (unframeable reply) n replies w0 w1
+    → Appends text0 text1 (spelled_all replies) → AppendsPart text1 text2 (spelled true reply)
+    → BreaksOffAtEnd start input n left text0 text2 w0 w1
+BreaksOffAtEnd-refusal start input reply n replies left text0 text1 text2 w0 w1 whole answered written partly =
+    let more = Appends-then-part text0 text1 text2 (spelled_all replies) (spelled true reply) written partly in
+    record {
+      whole = whole;
+      replies = replies;
+      reply = reply;
+      answers = answered;
+      part = more.0;
+      unwritten = more.1;
+      cut = more.2;
+      written = more.3;
+    }
+
+-- The output of a session that ends with its last request is its replies.
+pub Appends-ended : (a b : Option (List ℕ)) (replies : List Reply) → Appends a b (spelled_all replies)
+    → Appends a b (output replies ended)
+Appends-ended a b replies written = Appends-then a b b (spelled_all replies) [] written (Appends-none b)
+
+-- The output of a session that ends by a refusal is its replies, and then the refusal.
+pub Appends-refused : (a b c : Option (List ℕ)) (replies : List Reply) (reply : Reply) → Appends a b (spelled_all replies)
+    → Appends b c (spelled true reply) → Appends a c (output replies (unframeable reply))
+Appends-refused a b c replies reply written refused =
+    Appends-then a b c (spelled_all replies) (spelled true reply) written refused

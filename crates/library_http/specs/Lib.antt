@@ -1,0 +1,4 @@
+pub mod Fields
+pub mod Framed
+pub mod Sessions
+pub mod World

@@ -1,0 +1,94 @@
+//! One request, its reply, and the writing of it.
+ghost use Rattle.std.specs.Prelude.{◌≡◌, ◌≤◌, false, IsErrOf, OnOk, OnErr};
+ghost use Rattle.std.specs.Io.KnownBytes.{Appends};
+ghost use Rattle.lib_base.specs.Faults.{Rose};
+ghost use Rattle.lib_base.specs.Writes.{AppendsPart};
+ghost use Rattle.library_model.specs.Replies.{spelled};
+ghost use Rattle.library_model.specs.State.{State};
+ghost use Rattle.catalogue_core.specs.Kept.{Keeps};
+ghost use Rattle.library_http.specs.Sessions.{Acts, reply_given};
+ghost use Rattle.library_http.specs.World.{world};
+
+use crate::spelling::{memory_reply, spell};
+use catalogue_core::{Library, Staged, commit, stage};
+use keeper_store::{Keeper, Vault};
+use lib_base::{Bytes, Memory, Outside, Sink, write_all};
+use library_model::{Command, Reply, Request};
+use std::alloc::Global;
+
+/// Answers a request from the state that the library keeps. None is want of memory, which changes
+/// nothing.
+pub fn answer<D: Keeper, V: Vault>(
+    library: &mut Library,
+    request: Request,
+    keeper: &mut D,
+    vault: &mut V,
+) -> Option<Reply>
+    ensures acts { (s : State) → Keeps library.old s → Acts s request (reply_given result)
+        (world library.old (D.tables keeper.old) (V.blobs vault.old) (D.faults keeper.old) (V.faults vault.old))
+        (world library.new (D.tables keeper.new) (V.blobs vault.new) (D.faults keeper.new) (V.faults vault.new)) }
+    ensures keeper_later { D.faults keeper.old ≤ D.faults keeper.new }
+    ensures vault_later { V.faults vault.old ≤ V.faults vault.new }
+{
+    match stage(library, request, vault) {
+        Ok(Staged::Refused(reply)) => Some(reply),
+        Ok(Staged::Ready(ready)) => Some(commit(library, ready, keeper)),
+        Err(Memory) => None,
+    }
+}
+
+/// Answers the import of a file. None is want of memory, which changes nothing.
+pub fn answer_import<D: Keeper, V: Vault>(
+    alloc: Global,
+    library: &mut Library,
+    file: &[u8],
+    keeper: &mut D,
+    vault: &mut V,
+) -> Option<Reply>
+    ensures acts { (s : State) → Keeps library.old s → Acts s (record { command = Command.Import file.now }) (reply_given result)
+        (world library.old (D.tables keeper.old) (V.blobs vault.old) (D.faults keeper.old) (V.faults vault.old))
+        (world library.new (D.tables keeper.new) (V.blobs vault.new) (D.faults keeper.new) (V.faults vault.new)) }
+    ensures keeper_later { D.faults keeper.old ≤ D.faults keeper.new }
+    ensures vault_later { V.faults vault.old ≤ V.faults vault.new }
+{
+    match Bytes::copy(alloc, file) {
+        Ok(bytes) => {
+            let command = Command::Import { bytes };
+            answer(library, Request { command }, keeper, vault)
+        }
+        Err(Memory) => None,
+    }
+}
+
+/// Writes what was replied. For want of memory it writes a fixed text, which takes none.
+pub fn write_given<K: Sink>(
+    alloc: Global,
+    given: &Option<Reply>,
+    sink: &mut K,
+) -> Result<(), Outside>
+    ensures ok { OnOk result (Appends (K.written sink.old) (K.written sink.new) (spelled false (reply_given given.now))) }
+    ensures err { OnErr result (AppendsPart (K.written sink.old) (K.written sink.new) (spelled false (reply_given given.now))) }
+    ensures later { K.faults sink.old ≤ K.faults sink.new }
+    ensures cause { IsErrOf result Outside.Failed → Rose (K.faults sink.old) (K.faults sink.new) }
+{
+    match given {
+        Some(reply) => write_reply(alloc, reply, false, sink),
+        None => write_all(sink, memory_reply()),
+    }
+}
+
+/// Writes a reply. A refusal leaves a part of its bytes written, from the front.
+pub fn write_reply<K: Sink>(
+    alloc: Global,
+    reply: &Reply,
+    closes: bool,
+    sink: &mut K,
+) -> Result<(), Outside>
+    ensures ok { OnOk result (Appends (K.written sink.old) (K.written sink.new) (spelled closes reply.now)) }
+    ensures err { OnErr result (AppendsPart (K.written sink.old) (K.written sink.new) (spelled closes reply.now)) }
+    ensures later { K.faults sink.old ≤ K.faults sink.new }
+    ensures cause { IsErrOf result Outside.Failed → Rose (K.faults sink.old) (K.faults sink.new) }
+{
+    let text = spell(alloc, reply, closes)?;
+    write_all(sink, text.as_slice())
+}

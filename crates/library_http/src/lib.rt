@@ -1,0 +1,20 @@
+//! HTTP over bytes: requests out of an input, replies as bytes, and a session over both.
+//!
+//! `frame` finds the request at the front of the bytes that are left, `spell` writes a reply, and
+//! `session` answers a whole input. It promises that the sink gains exactly the replies of the
+//! input's requests in order, each from the state that the one before left, that the library, the
+//! keeper's tables and the vault's files are those of the state after them, and that each end and
+//! each fault that is answered has its cause.
+#![tactic(auto)]
+
+mod answering;
+mod framing;
+mod serving;
+mod spelling;
+
+pub use framing::{Framed, frame};
+pub use serving::{How, SessionEnd, Stop, session};
+pub use spelling::{memory_reply, spell};
+
+#[cfg(test)]
+mod tests;

@@ -1,0 +1,204 @@
+//! A session: an input read, its requests answered, and its end.
+ghost use Rattle.std.specs.Prelude.{◌≡◌, ◌≤◌, length, IsErrOf, OnOk, OnErr, ◌⊎◌};
+ghost use Rattle.lib_base.specs.Faults.{Rose};
+ghost use Rattle.library_model.specs.Framing.{input_limit};
+ghost use Rattle.library_model.specs.State.{State};
+ghost use Rattle.catalogue_core.specs.Kept.{Keeps};
+ghost use Rattle.library_http.specs.Sessions.{Replied, PartlyReplied, Stops, EndsAfter, EndsBy, Session};
+ghost use Rattle.library_http.specs.World.{world};
+
+use crate::answering::{answer_import, write_given};
+use crate::framing::{Framed, frame};
+use crate::spelling::{frame_reply, size_reply};
+use catalogue_core::Library;
+use keeper_store::{Keeper, Vault};
+use lib_base::{Outside, ReadEnd, Sink, Source, read_up_to, write_all};
+use library_model::Command;
+use std::alloc::Global;
+
+/// The greatest length of an input, in bytes.
+const INPUT_LIMIT: usize = 1_048_576;
+
+/// How a session ended.
+#[derive(Clone, Copy, Debug, PartialEq, Eq)]
+pub enum How {
+    /// The source was read to its end, and each request was answered.
+    Ended,
+    /// What no request begins was refused, and so was an input that is too long.
+    Unframeable,
+    /// A read failed. The requests in the bytes that were read were answered.
+    SourceFault,
+    /// A write failed.
+    SinkFault,
+    /// Want of memory.
+    Memory,
+}
+
+/// How a session ended, and how many requests it answered whole.
+#[derive(Clone, Copy, Debug, PartialEq, Eq)]
+pub struct SessionEnd {
+    pub how: How,
+    pub answered: u32,
+}
+
+/// Where the serving of an input stops.
+#[derive(Clone, Copy, Debug, PartialEq, Eq)]
+pub enum Stop {
+    AtEnd,
+    /// What no request begins is left, and its refusal is due.
+    AtRefusal,
+    AtSinkFault,
+    AtMemory,
+}
+
+/// Where the serving of an input stopped, and how many requests it answered whole.
+#[derive(Clone, Copy, Debug)]
+struct Served {
+    stop: Stop,
+    answered: u32,
+}
+
+/// Reads the source to its end, or to one byte past the limit, answers the requests of that input in
+/// order, and writes their replies to the sink.
+pub fn session<S: Source, K: Sink, D: Keeper, V: Vault>(
+    alloc: Global,
+    library: &mut Library,
+    keeper: &mut D,
+    vault: &mut V,
+    source: &mut S,
+    sink: &mut K,
+) -> SessionEnd
+    ensures session { (start : State) → Keeps library.old start → Session start result.how result.answered
+        (S.left source.old) (S.left source.new) (K.written sink.old) (K.written sink.new)
+        (world library.old (D.tables keeper.old) (V.blobs vault.old) (D.faults keeper.old) (V.faults vault.old))
+        (world library.new (D.tables keeper.new) (V.blobs vault.new) (D.faults keeper.new) (V.faults vault.new)) }
+    ensures source_cause { result.how ≡ How.SourceFault → Rose (S.faults source.old) (S.faults source.new) }
+    ensures sink_cause { result.how ≡ How.SinkFault → Rose (K.faults sink.old) (K.faults sink.new) }
+    ensures source_later { S.faults source.old ≤ S.faults source.new }
+    ensures sink_later { K.faults sink.old ≤ K.faults sink.new }
+    ensures keeper_later { D.faults keeper.old ≤ D.faults keeper.new }
+    ensures vault_later { V.faults vault.old ≤ V.faults vault.new }
+{
+    let Ok(taken) = read_up_to(alloc, source, INPUT_LIMIT + 1) else {
+        return SessionEnd {
+            how: How::Memory,
+            answered: 0,
+        };
+    };
+    if taken.end == ReadEnd::Full {
+        return SessionEnd {
+            how: end_by(size_reply(), sink),
+            answered: 0,
+        };
+    }
+    let served = serve(alloc, library, keeper, vault, taken.bytes.as_slice(), sink);
+    SessionEnd {
+        how: end_after(served.stop, taken.end, sink),
+        answered: served.answered,
+    }
+}
+
+/// Ends a session whose serving stopped so, over an input that was read so. Where what no request
+/// begins is left of a whole input, it is refused.
+fn end_after<K: Sink>(stop: Stop, end: ReadEnd, sink: &mut K) -> How
+    ensures ends { EndsAfter stop end result (K.written sink.old) (K.written sink.new) }
+    ensures later { K.faults sink.old ≤ K.faults sink.new }
+    ensures sink_cause { result ≡ How.SinkFault → (stop ≡ Stop.AtSinkFault) ⊎ Rose (K.faults sink.old) (K.faults sink.new) }
+    ensures source_cause { result ≡ How.SourceFault → end ≡ ReadEnd.Fault }
+{
+    match (stop, end) {
+        (Stop::AtSinkFault, _) => How::SinkFault,
+        (Stop::AtMemory, _) => How::Memory,
+        (_, ReadEnd::Fault) => How::SourceFault,
+        (Stop::AtEnd, _) => How::Ended,
+        (Stop::AtRefusal, _) => end_by(frame_reply(), sink),
+    }
+}
+
+/// Ends a session by its last refusal.
+fn end_by<K: Sink>(refusal: &[u8], sink: &mut K) -> How
+    ensures ends { EndsBy result refusal.now (K.written sink.old) (K.written sink.new) }
+    ensures later { K.faults sink.old ≤ K.faults sink.new }
+    ensures cause { result ≡ How.SinkFault → Rose (K.faults sink.old) (K.faults sink.new) }
+{
+    match write_all(sink, refusal) {
+        Ok(()) => How::Unframeable,
+        Err(Outside::Failed) => How::SinkFault,
+        Err(Outside::Memory) => How::Memory,
+    }
+}
+
+/// Answers the requests of an input in order, up to what no request begins.
+fn serve<K: Sink, D: Keeper, V: Vault>(
+    alloc: Global,
+    library: &mut Library,
+    keeper: &mut D,
+    vault: &mut V,
+    input: &[u8],
+    sink: &mut K,
+) -> Served
+    requires { length input.now ≤ input_limit }
+    ensures stops { (start : State) → Keeps library.old start → Stops start input.now result.stop result.answered
+        (K.written sink.old) (K.written sink.new)
+        (world library.old (D.tables keeper.old) (V.blobs vault.old) (D.faults keeper.old) (V.faults vault.old))
+        (world library.new (D.tables keeper.new) (V.blobs vault.new) (D.faults keeper.new) (V.faults vault.new)) }
+    ensures sink_cause { result.stop ≡ Stop.AtSinkFault → Rose (K.faults sink.old) (K.faults sink.new) }
+    ensures sink_later { K.faults sink.old ≤ K.faults sink.new }
+    ensures keeper_later { D.faults keeper.old ≤ D.faults keeper.new }
+    ensures vault_later { V.faults vault.old ≤ V.faults vault.new }
+{
+    let mut rest = input;
+    let mut answered = 0u32;
+    'requests: loop {
+        let body = match frame(rest) {
+            Framed::Ended => return Served {
+                stop: Stop::AtEnd,
+                answered,
+            },
+            Framed::Unframeable => return Served {
+                stop: Stop::AtRefusal,
+                answered,
+            },
+            Framed::Import(body) => body,
+        };
+        let file = &rest[body.start..body.end];
+        match serve_import(alloc, library, keeper, vault, file, sink) {
+            Ok(()) => answered += 1,
+            Err(Outside::Failed) => return Served {
+                stop: Stop::AtSinkFault,
+                answered,
+            },
+            Err(Outside::Memory) => return Served {
+                stop: Stop::AtMemory,
+                answered,
+            },
+        }
+        rest = rest.split_at(body.end).1;
+    }
+}
+
+/// Answers an import, and writes its reply.
+fn serve_import<K: Sink, D: Keeper, V: Vault>(
+    alloc: Global,
+    library: &mut Library,
+    keeper: &mut D,
+    vault: &mut V,
+    file: &[u8],
+    sink: &mut K,
+) -> Result<(), Outside>
+    ensures ok { (s : State) → Keeps library.old s → OnOk result
+        (Replied s (record { command = Command.Import file.now }) (K.written sink.old) (K.written sink.new)
+        (world library.old (D.tables keeper.old) (V.blobs vault.old) (D.faults keeper.old) (V.faults vault.old))
+        (world library.new (D.tables keeper.new) (V.blobs vault.new) (D.faults keeper.new) (V.faults vault.new))) }
+    ensures err { (s : State) → Keeps library.old s → OnErr result
+        (PartlyReplied s (record { command = Command.Import file.now }) (K.written sink.old) (K.written sink.new)
+        (world library.old (D.tables keeper.old) (V.blobs vault.old) (D.faults keeper.old) (V.faults vault.old))
+        (world library.new (D.tables keeper.new) (V.blobs vault.new) (D.faults keeper.new) (V.faults vault.new))) }
+    ensures sink_cause { IsErrOf result Outside.Failed → Rose (K.faults sink.old) (K.faults sink.new) }
+    ensures sink_later { K.faults sink.old ≤ K.faults sink.new }
+    ensures keeper_later { D.faults keeper.old ≤ D.faults keeper.new }
+    ensures vault_later { V.faults vault.old ≤ V.faults vault.new }
+{
+    let given = answer_import(alloc, library, file, keeper, vault);
+    write_given(alloc, &given, sink)
+}

@@ -1,0 +1,4 @@
+pub mod Runs
+pub mod Imports
+pub mod Readings
+pub mod Rows

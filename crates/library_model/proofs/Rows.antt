@@ -1,0 +1,225 @@
+-- Worked rows: what the definitions say of one recording, of its replies and of one request.
+use Rattle.std.proofs.Common.{◌≡◌, ℕ, true, false, Some, None, List, [], ◌∷◌, ◌++◌, codes, refl, inl, arith}
+use Rattle.std.proofs.lemmas.List.Elements.{All-from_recursion}
+use Rattle.std.proofs.lemmas.List.Sums.{AllPass-from_list_all}
+use Rattle.std.specs.Fmt.{digits}
+use Rattle.std.specs.Char.{encode_utf8}
+use Rattle.httparse.proofs.OnLiterals.{httparse_on_literals}
+use Rattle.httparse.specs.Grammar.{RequestHead, IsField, ReadsRequest, crlf, is_token_byte, is_uri_byte, is_value_byte}
+use Rattle.md5.specs.Md5.{md5, block_words, rounds, compress, hash_after, digest_bytes}
+use Rattle.lib_base.specs.declared.outcomes.Rule.TheVariants.{K}
+use Rattle.file_model.specs.Reading.{Reads, accepted, broken}
+use Rattle.file_model.proofs.Rows.{four_frames, four_samples, four_frames_read}
+use Rattle.library_model.specs.declared.messages.Command.TheVariants.{Import}
+use Rattle.library_model.specs.Framing.{BeginsImport, is_named, only_length, RequestsOf, ended}
+use Rattle.library_model.specs.Machine.{recording_reply, import_verdict, accepts, refuses}
+use Rattle.library_model.specs.Replies.{json, spelled, format_refusal, frame_refusal, size_refusal, memory_refusal}
+use Rattle.library_model.specs.Stands.{recording_row}
+use Rattle.library_model.specs.State.{Recording, State, empty_state}
+
+-- ---- one recording
+
+-- The recording that it becomes as the first one.
+abbrev pub row_recording : Recording
+row_recording = record { id = 1; take = 1; file = four_frames 1; samples = four_samples }
+
+-- The file reads as its samples.
+pub row_file-Reads : Reads row_recording.file (accepted row_recording.samples)
+row_file-Reads = four_frames_read
+
+-- Its peak is half of full scale, in units of 2^-36.
+pub recording_row-peak : (recording_row row_recording).summary.peak ≡ 34359738368
+recording_row-peak = refl
+
+-- The MD5 of the file.
+pub recording_row-digest : (recording_row row_recording).digest
+    ≡ 226 ∷ 42 ∷ 101 ∷ 86 ∷ 248 ∷ 143 ∷ 29 ∷ 4 ∷ 183 ∷ 50 ∷ 114 ∷ 53 ∷ 172 ∷ 134 ∷ 173 ∷ 71 ∷ []
+unfolding block_words rounds compress hash_after digest_bytes md5
+recording_row-digest = refl
+
+-- ---- replies
+
+-- The reply to its import.
+pub spelled-recording_reply : spelled false (recording_reply 201 row_recording)
+    ≡ codes "HTTP/1.1 201 Created" ++ 13 ∷ 10 ∷ codes "Content-Type: application/json"
+    ++ 13 ∷ 10 ∷ codes "Content-Length: 39"
+    ++ 13 ∷ 10 ∷ 13 ∷ 10 ∷ codes "{\"frames\":4,\"id\":1,\"sample_peak\":16384}"
+unfolding digits
+spelled-recording_reply = refl
+
+-- The body of the refusal of a form that is not known.
+pub format_refusal-body : (format_refusal (K 0) 0).body ≡ codes "{\"error\":\"format\",\"place\":0,\"rule\":\"K0\"}"
+unfolding digits
+format_refusal-body = refl
+
+-- The whole of that refusal.
+pub spelled-format_refusal : spelled false (format_refusal (K 0) 0)
+    ≡ codes "HTTP/1.1 422 Unprocessable Content" ++ 13 ∷ 10 ∷ codes "Content-Type: application/json"
+    ++ 13 ∷ 10 ∷ codes "Content-Length: 40"
+    ++ 13 ∷ 10 ∷ 13 ∷ 10 ∷ codes "{\"error\":\"format\",\"place\":0,\"rule\":\"K0\"}"
+unfolding digits
+spelled-format_refusal = refl
+
+-- The refusal of bytes that begin no request, after which the connection closes.
+pub spelled-frame_refusal : spelled true frame_refusal
+    ≡ codes "HTTP/1.1 400 Bad Request" ++ 13 ∷ 10 ∷ codes "Content-Type: application/json"
+    ++ 13 ∷ 10 ∷ codes "Content-Length: 17" ++ 13 ∷ 10 ∷ codes "Connection: close"
+    ++ 13 ∷ 10 ∷ 13 ∷ 10 ∷ codes "{\"error\":\"frame\"}"
+unfolding digits
+spelled-frame_refusal = refl
+
+-- The refusal of an input that is too long, after which the connection closes.
+pub spelled-size_refusal : spelled true size_refusal
+    ≡ codes "HTTP/1.1 413 Content Too Large" ++ 13 ∷ 10 ∷ codes "Content-Type: application/json"
+    ++ 13 ∷ 10 ∷ codes "Content-Length: 16" ++ 13 ∷ 10 ∷ codes "Connection: close"
+    ++ 13 ∷ 10 ∷ 13 ∷ 10 ∷ codes "{\"error\":\"size\"}"
+unfolding digits
+spelled-size_refusal = refl
+
+-- The refusal for want of memory.
+pub spelled-memory_refusal : spelled false memory_refusal
+    ≡ codes "HTTP/1.1 503 Service Unavailable" ++ 13 ∷ 10 ∷ codes "Content-Type: application/json"
+    ++ 13 ∷ 10 ∷ codes "Content-Length: 18"
+    ++ 13 ∷ 10 ∷ 13 ∷ 10 ∷ codes "{\"error\":\"memory\"}"
+unfolding digits
+spelled-memory_refusal = refl
+
+-- ---- header lines
+
+-- Names match whatever their case.
+pub is_named-case : is_named (codes "Content-Length") (codes "content-LENGTH") ≡ true
+is_named-case = refl
+
+-- Another name does not match.
+pub is_named-other : is_named (codes "Content-Length") (codes "Content-Type") ≡ false
+is_named-other = refl
+
+-- Two digits are a length.
+pub only_length-two : only_length (codes "52" ∷ []) ≡ Some 52
+only_length-two = refl
+
+-- Zeros in front count as digits.
+pub only_length-zeros : only_length (codes "0000052" ∷ []) ≡ Some 52
+only_length-zeros = refl
+
+-- No digit is no length.
+pub only_length-empty : only_length (codes "" ∷ []) ≡ None
+only_length-empty = refl
+
+-- Eight digits are no length.
+pub only_length-eight : only_length (codes "12345678" ∷ []) ≡ None
+only_length-eight = refl
+
+-- A letter makes no length.
+pub only_length-letter : only_length (codes "5x" ∷ []) ≡ None
+only_length-letter = refl
+
+-- No value is no length.
+pub only_length-none : only_length [] ≡ None
+only_length-none = refl
+
+-- Two values are no length, though they agree.
+pub only_length-both : only_length (codes "52" ∷ codes "52" ∷ []) ≡ None
+only_length-both = refl
+
+-- ---- one request
+
+-- The head of an import of three bytes.
+abbrev pub row_head : RequestHead
+row_head = record {
+  blank = [];
+  method = codes "POST";
+  target = codes "/recordings";
+  minor = 1;
+  line_end = crlf;
+  fields = record { name = codes "Content-Length"; raw = codes " 3"; end = crlf } ∷ [];
+  last = crlf;
+}
+
+-- The bytes of that head, before whatever follows.
+pub row_head-ReadsRequest : (rest : List ℕ) → ReadsRequest
+    (codes "POST /recordings HTTP/1.1" ++ 13 ∷ 10 ∷ codes "Content-Length: 3" ++ 13 ∷ 10 ∷ 13 ∷ 10 ∷ rest)
+    row_head rest
+unfolding httparse_on_literals encode_utf8
+row_head-ReadsRequest rest = (
+  record {
+    method = (omega arith, AllPass-from_list_all is_token_byte (codes "POST") refl);
+    target = (omega arith, AllPass-from_list_all is_uri_byte (codes "/recordings") refl);
+    target_text = (codes "/recordings", (refl, refl));
+    minor = omega arith;
+    fields = All-from_recursion IsField row_head.fields (
+      record {
+        name = (omega arith, AllPass-from_list_all is_token_byte (codes "Content-Length") refl);
+        raw = AllPass-from_list_all is_value_byte (codes " 3") refl;
+      },
+      tt,
+    );
+  },
+  refl,
+)
+
+-- An import of `abc`, and then whatever follows.
+pub row_request : (rest : List ℕ) → BeginsImport
+    (codes "POST /recordings HTTP/1.1" ++ 13 ∷ 10 ∷ codes "Content-Length: 3" ++ 13 ∷ 10 ∷ 13 ∷ 10 ∷ codes "abc" ++ rest)
+    (codes "abc") rest
+unfolding httparse_on_literals
+row_request rest = record {
+  head = row_head;
+  reads = row_head-ReadsRequest (codes "abc" ++ rest);
+  within = (omega arith, omega arith);
+  method = refl;
+  target = refl;
+  body = refl;
+}
+
+-- An import of `abc`, and one byte that follows it.
+pub row_request-BeginsImport : BeginsImport
+    (codes "POST /recordings HTTP/1.1" ++ 13 ∷ 10 ∷ codes "Content-Length: 3" ++ 13 ∷ 10 ∷ 13 ∷ 10 ∷ codes "abcX")
+    (codes "abc") (codes "X")
+row_request-BeginsImport = row_request (codes "X")
+
+-- An input that is that import alone.
+pub row_request-RequestsOf : RequestsOf
+    (codes "POST /recordings HTTP/1.1" ++ 13 ∷ 10 ∷ codes "Content-Length: 3" ++ 13 ∷ 10 ∷ 13 ∷ 10 ∷ codes "abc")
+    (record { command = Import (codes "abc") } ∷ []) ended
+row_request-RequestsOf = inl (omega arith, ([], ([], (codes "abc", refl, row_request []), refl), refl))
+
+-- An input of no bytes has no request.
+pub RequestsOf-nothing : RequestsOf [] [] ended
+RequestsOf-nothing = inl (omega arith, ([], refl, refl))
+
+-- ---- verdicts
+
+-- The first import is accepted as recording 1.
+pub import_verdict-accepts : import_verdict empty_state (four_frames 1) (accepted four_samples)
+    ≡ accepts (json 201 (codes "{\"frames\":4,\"id\":1,\"sample_peak\":16384}"))
+    (record { next_album = 1; next_recording = 2; next_take = 2; recordings = row_recording ∷ [] })
+unfolding digits
+import_verdict-accepts = refl
+
+-- A file that breaks a rule is refused by it.
+pub import_verdict-broken : import_verdict empty_state (codes "RIFF") (broken (K 0) 0)
+    ≡ refuses (json 422 (codes "{\"error\":\"format\",\"place\":0,\"rule\":\"K0\"}"))
+unfolding digits
+import_verdict-broken = refl
+
+-- A state whose next recording would have the number at the end.
+abbrev pub row_full : State
+row_full = record { next_album = 1; next_recording = 2147483647; next_take = 1; recordings = [] }
+
+-- No number is left there.
+pub import_verdict-full : import_verdict row_full (four_frames 1) (accepted four_samples)
+    ≡ refuses (json 409 (codes "{\"error\":\"ids\"}"))
+import_verdict-full = refl
+
+-- The state before it has one number left.
+pub import_verdict-last : import_verdict (record row_full { next_recording = 2147483646 }) (four_frames 1) (accepted four_samples)
+    ≡ accepts (json 201 (codes "{\"frames\":4,\"id\":2147483646,\"sample_peak\":16384}"))
+    (record {
+      next_album = 1;
+      next_recording = 2147483647;
+      next_take = 2;
+      recordings = record row_recording { id = 2147483646 } ∷ [];
+    })
+unfolding digits
+import_verdict-last = refl

@@ -1,0 +1,46 @@
+-- Runs of requests and of replies that grow by one at their end.
+use Rattle.std.proofs.Common.{◌≡◌, ℕ, ◌+◌, List, [], ◌∷◌, ◌++◌, refl, sym, ap, ◌∙◌, subst, arith, append_assoc, append-nil}
+use Rattle.std.specs.Prelude.{◌==◌, if◌then◌else◌}
+use Rattle.library_model.specs.declared.messages.Request.{Request}
+use Rattle.library_model.specs.declared.messages.Reply.{Reply}
+use Rattle.library_model.specs.Framing.{Begins, BeginWith}
+use Rattle.library_model.specs.Machine.{Answer, Answers, count_status}
+use Rattle.library_model.specs.Replies.{spelled, spelled_all}
+use Rattle.library_model.specs.State.{State}
+use Rattle.std.specs.Prelude.{false}
+
+-- Requests, and then one more.
+pub BeginWith-push : (bytes : List ℕ) (requests : List Request) (mid rest : List ℕ) (request : Request)
+    → BeginWith bytes requests mid → Begins mid request rest → BeginWith bytes (requests ++ request ∷ []) rest
+BeginWith-push bytes [] mid rest request begin next =
+    (rest, subst (λ (b : List ℕ). Begins b request rest) (sym begin) next, refl)
+BeginWith-push bytes (first ∷ requests) mid rest request begin next =
+    (begin.0, begin.1, BeginWith-push begin.0 requests mid rest request begin.2 next)
+
+-- Answers, and then one more.
+pub Answers-push : (s mid last : State) (requests : List Request) (replies : List Reply) (request : Request)
+    (reply : Reply) → Answers s requests replies mid → Answer mid request reply last
+    → Answers s (requests ++ request ∷ []) (replies ++ reply ∷ []) last
+Answers-push s mid last [] [] request reply answers next =
+    (last, subst (λ (t : State). Answer t request reply last) answers next, refl)
+Answers-push s mid last (first ∷ requests) (said ∷ replies) request reply answers next =
+    (answers.0, answers.1, Answers-push answers.0 mid last requests replies request reply answers.2 next)
+Answers-push s mid last [] (said ∷ replies) request reply answers next = absurd answers
+Answers-push s mid last (first ∷ requests) [] request reply answers next = absurd answers
+
+-- The bytes of one more reply follow those of the replies before it.
+pub spelled_all-push : (replies : List Reply) (reply : Reply)
+    → spelled_all (replies ++ reply ∷ []) ≡ spelled_all replies ++ spelled false reply
+spelled_all-push [] reply = simp append-nil
+spelled_all-push (said ∷ replies) reply =
+    ap (λ bs. spelled false said ++ bs) (spelled_all-push replies reply)
+    ∙ sym (append_assoc (spelled false said) (spelled_all replies) (spelled false reply))
+
+-- One more reply counts where it has the status.
+pub count_status-push : (status : ℕ) (replies : List Reply) (reply : Reply)
+    → count_status status (replies ++ reply ∷ []) ≡ count_status status replies + (if reply.status == status then 1 else 0)
+count_status-push status [] reply = omega arith
+count_status-push status (said ∷ replies) reply =
+    let rest : count_status status (replies ++ reply ∷ [])
+    ≡ count_status status replies + (if reply.status == status then 1 else 0) = count_status-push status replies reply in
+    omega arith

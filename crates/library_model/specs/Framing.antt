@@ -1,0 +1,99 @@
+-- The requests that bytes spell (RFC 9112).
+use Rattle.std.specs.Prelude.{◌≡◌, ◌≢◌, ◌<◌, ◌≤◌, ◌⊎◌, ◌&&◌, ℕ, Bool, true, List, [], ◌∷◌, ◌++◌, length, map, codes, nat_le, Option, None, Some, if◌then◌else◌}
+use Rattle.std.specs.Char.{to_ascii_lowercase}
+use Rattle.std.specs.Str.{bytes_eq, all_ascii_digits}
+use Rattle.std.specs.Str.Parse.{digits_value}
+use Rattle.httparse.specs.Grammar.{RequestHead, ReadsRequest, print_request}
+use Rattle.httparse.specs.Spans.{name_and_value}
+use Rattle.library_model.specs.declared.messages.Command.TheVariants.{Import}
+use Rattle.library_model.specs.declared.messages.Request.{Request}
+use Rattle.library_model.specs.declared.messages.Reply.{Reply}
+use Rattle.library_model.specs.Replies.{frame_refusal, size_refusal, spelled, spelled_all}
+
+-- the greatest length of an input, in bytes
+abbrev pub input_limit : ℕ
+input_limit = 1048576
+
+-- the name is that one, ASCII case aside (RFC 9110 section 5.1)
+abbrev pub is_named : List ℕ → List ℕ → Bool
+is_named name other = bytes_eq (map to_ascii_lowercase other) (map to_ascii_lowercase name)
+
+-- the values of the header lines of that name, from names and values
+abbrev pub values_of : List ℕ → List (List ℕ × List ℕ) → List (List ℕ)
+values_of name [] = []
+values_of name (header ∷ headers) =
+    if is_named name header.0 then header.1 ∷ values_of name headers else values_of name headers
+
+-- one to seven digits
+abbrev pub is_length : List ℕ → Bool
+is_length digits = nat_le 1 (length digits) && nat_le (length digits) 7 && all_ascii_digits digits
+
+-- the number that a value of Content-Length writes
+abbrev pub length_written : List ℕ → Option ℕ
+length_written digits = if is_length digits then Some (digits_value 10 digits) else None
+
+-- the number of the one value that there is
+abbrev pub only_length : List (List ℕ) → Option ℕ
+only_length [] = None
+only_length (digits ∷ []) = length_written digits
+only_length (digits ∷ other ∷ others) = None
+
+-- how long the body is, as the header lines say (RFC 9110 section 8.6)
+abbrev pub body_length : RequestHead → Option ℕ
+body_length head = only_length (values_of (codes "Content-Length") (map name_and_value head.fields))
+
+-- a head within the limits: 8,192 bytes and 32 header lines
+abbrev pub IsHeadWithin : RequestHead → Type 0
+IsHeadWithin head = (length (print_request head) ≤ 8192) × (length head.fields ≤ 32)
+
+-- The bytes begin with an import of that file, and go on with rest.
+pub record BeginsImport (bytes file rest : List ℕ) : Type 0 where
+  pub head : RequestHead
+  pub reads : ReadsRequest bytes head (file ++ rest)
+  pub within : IsHeadWithin head
+  pub method : head.method ≡ codes "POST"
+  pub target : head.target ≡ codes "/recordings"
+  pub body : body_length head ≡ Some (length file)
+
+-- The bytes begin with that request, and go on with rest.
+abbrev pub Begins : List ℕ → Request → List ℕ → Type 0
+Begins bytes request rest = (file : List ℕ) × (request ≡ record { command = Import file }) × BeginsImport bytes file rest
+
+-- The bytes are these requests, one after another, and then rest.
+abbrev pub BeginWith : List ℕ → List Request → List ℕ → Type 0
+BeginWith bytes [] rest = bytes ≡ rest
+BeginWith bytes (request ∷ requests) rest = (mid : List ℕ) × Begins bytes request mid × BeginWith mid requests rest
+
+-- no request begins the bytes
+abbrev pub BeginNoRequest : List ℕ → Type 0
+BeginNoRequest bytes = (request : Request) (rest : List ℕ) → ¬ Begins bytes request rest
+
+-- how an input ends: with its last request, or with what can't be framed and the reply to that
+pub data End : Type 0 where
+  ended : End
+  unframeable : Reply → End
+
+-- the last bytes of an output: the reply to what can't be framed, which closes
+abbrev pub ending : End → List ℕ
+ending ended = []
+ending (unframeable reply) = spelled true reply
+
+-- the bytes that answer an input: the replies to its requests, one after another, and then its ending
+abbrev pub output : List Reply → End → List ℕ
+output replies end = spelled_all replies ++ ending end
+
+-- the exit status of a session whose input ends so
+abbrev pub end_status : End → ℕ
+end_status ended = 0
+end_status (unframeable reply) = 2
+
+-- what is left after the requests ends them so
+abbrev pub EndsAs : List ℕ → End → Type 0
+EndsAs rest ended = rest ≡ []
+EndsAs rest (unframeable reply) = (rest ≢ []) × BeginNoRequest rest × (reply ≡ frame_refusal)
+
+-- The input is these requests, and ends so. An input past the limit is refused alone.
+abbrev pub RequestsOf : List ℕ → List Request → End → Type 0
+RequestsOf input requests end =
+    ((length input ≤ input_limit) × ((rest : List ℕ) × BeginWith input requests rest × EndsAs rest end))
+    ⊎ ((input_limit < length input) × (requests ≡ []) × (end ≡ unframeable size_refusal))

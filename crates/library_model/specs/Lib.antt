@@ -1,0 +1,5 @@
+pub mod Framing
+pub mod Machine
+pub mod Replies
+pub mod Stands
+pub mod State

@@ -1,0 +1,98 @@
+-- The library as a machine: how it answers a request, and where it goes from there.
+use Rattle.std.specs.Prelude.{◌≡◌, ◌+◌, ◌||◌, ◌==◌, ℕ, ℤ, List, [], ◌∷◌, length, nat_le, if◌then◌else◌, ⊤}
+use Rattle.file_model.specs.Reading.{Reading, Reads, accepted, broken}
+use Rattle.file_model.specs.Sizes.{greatest_size}
+use Rattle.keeper_store.specs.Puts.{put}
+use Rattle.library_model.specs.declared.messages.Command.{Command}
+use Rattle.library_model.specs.declared.messages.Command.TheVariants.{Import}
+use Rattle.library_model.specs.declared.messages.Request.{Request}
+use Rattle.library_model.specs.declared.messages.Reply.{Reply}
+use Rattle.library_model.specs.Replies.{json, recording_text, format_refusal, ids_refusal, vault_refusal, memory_refusal, keeper_refusal}
+use Rattle.library_model.specs.State.{Recording, State, numbers_end, recording_before}
+
+-- a request is refused, or accepted with a reply and the state that it leads to
+pub data Verdict : Type 0 where
+  refuses : Reply → Verdict
+  accepts : Reply → State → Verdict
+
+-- what is replied about a recording
+abbrev pub recording_reply : ℕ → Recording → Reply
+recording_reply status r = json status (recording_text (length r.samples) r.id (greatest_size r.samples))
+
+-- the recording that an import makes, under the next numbers
+abbrev pub new_recording : State → List ℕ → List ℤ → Recording
+new_recording s file samples = record { id = s.next_recording; take = s.next_take; file = file; samples = samples }
+
+-- the state after an import
+abbrev pub imported : State → List ℕ → List ℤ → State
+imported s file samples = record s {
+  next_recording = s.next_recording + 1;
+  next_take = s.next_take + 1;
+  recordings = put recording_before (new_recording s file samples) s.recordings;
+}
+
+-- An import of a file that breaks a rule is refused by that rule, and one for which no number is left as `ids`.
+abbrev pub import_verdict : State → List ℕ → Reading → Verdict
+import_verdict s file (broken rule place) = refuses (format_refusal rule place)
+import_verdict s file (accepted samples) =
+    if nat_le numbers_end s.next_recording || nat_le numbers_end s.next_take
+    then refuses ids_refusal
+    else accepts (recording_reply 201 (new_recording s file samples)) (imported s file samples)
+
+-- the verdict on a command, by what its file reads as
+abbrev pub DecidesCommand : State → Command → Verdict → Type 0
+DecidesCommand s (Import file) verdict = (reading : Reading) × Reads file reading × (verdict ≡ import_verdict s file reading)
+
+-- the verdict on a request
+abbrev pub Decides : State → Request → Verdict → Type 0
+Decides s request verdict = DecidesCommand s request.command verdict
+
+-- what is replied as a verdict says
+abbrev pub verdict_reply : Verdict → Reply
+verdict_reply (refuses reply) = reply
+verdict_reply (accepts reply next) = reply
+
+-- the state after a verdict: a refusal changes nothing
+abbrev pub state_after : State → Verdict → State
+state_after s (refuses reply) = s
+state_after s (accepts reply next) = next
+
+-- the verdict accepts
+abbrev pub IsAccepted : Verdict → Type 0
+IsAccepted (refuses reply) = ⊥
+IsAccepted (accepts reply next) = ⊤
+
+-- the ways in which a request is answered: as its verdict says, or with no change for want of memory or for a fault
+pub data Way : Type 0 where
+  as_decided : Verdict → Way
+  without_memory : Way
+  vault_failed : Verdict → Way
+  keeper_failed : Verdict → Way
+
+-- The reply and the next state of each way. Want of memory may come to any request; only an import that is accepted comes
+-- to the vault, and only a change that is accepted to the keeper.
+abbrev pub AnswersBy : Way → State → Request → Reply → State → Type 0
+AnswersBy (as_decided verdict) s request reply next =
+    Decides s request verdict × (reply ≡ verdict_reply verdict) × (next ≡ state_after s verdict)
+AnswersBy without_memory s request reply next = (reply ≡ memory_refusal) × (next ≡ s)
+AnswersBy (vault_failed verdict) s request reply next =
+    Decides s request verdict × IsAccepted verdict × (reply ≡ vault_refusal) × (next ≡ s)
+AnswersBy (keeper_failed verdict) s request reply next =
+    Decides s request verdict × IsAccepted verdict × (reply ≡ keeper_refusal) × (next ≡ s)
+
+-- From s, the library may answer the request with that reply and go on to next.
+pub record Answer (s : State) (request : Request) (reply : Reply) (next : State) : Type 0 where
+  pub way : Way
+  pub answers : AnswersBy way s request reply next
+
+-- From s, it may answer the requests in order with these replies, and end in last.
+abbrev pub Answers : State → List Request → List Reply → State → Type 0
+Answers s [] [] last = last ≡ s
+Answers s (request ∷ requests) (reply ∷ replies) last = (next : State) × Answer s request reply next × Answers next requests replies last
+Answers s [] (reply ∷ replies) last = ⊥
+Answers s (request ∷ requests) [] last = ⊥
+
+-- how many replies have that status
+abbrev pub count_status : ℕ → List Reply → ℕ
+count_status status [] = 0
+count_status status (reply ∷ replies) = (if reply.status == status then 1 else 0) + count_status status replies

@@ -1,0 +1,101 @@
+-- Replies, and the bytes that spell them (RFC 9112, RFC 8259).
+use Rattle.std.specs.Prelude.{ℕ, Bool, true, false, List, [], ◌∷◌, ◌++◌, ◌==◌, length, codes, decimal, if◌then◌else◌}
+use Rattle.lib_base.specs.declared.outcomes.Rule.{Rule}
+use Rattle.lib_base.specs.Rules.{rule_text}
+use Rattle.library_model.specs.declared.messages.BodyKind.{BodyKind}
+use Rattle.library_model.specs.declared.messages.BodyKind.TheVariants.{Json, Csv, Wave, Flac}
+use Rattle.library_model.specs.declared.messages.Reply.{Reply}
+
+-- a line of that text
+abbrev pub line : List ℕ → List ℕ
+line text = text ++ 13 ∷ 10 ∷ []
+
+-- the reason phrase of each status that the library replies with (RFC 9110 section 15)
+abbrev pub reason : ℕ → List ℕ
+reason status =
+    if status == 200 then codes "OK"
+    else if status == 201 then codes "Created"
+    else if status == 400 then codes "Bad Request"
+    else if status == 404 then codes "Not Found"
+    else if status == 409 then codes "Conflict"
+    else if status == 413 then codes "Content Too Large"
+    else if status == 422 then codes "Unprocessable Content"
+    else if status == 502 then codes "Bad Gateway"
+    else if status == 503 then codes "Service Unavailable"
+    else if status == 504 then codes "Gateway Timeout"
+    else []
+
+-- the media type of a body
+abbrev pub media_type : BodyKind → List ℕ
+media_type Json = codes "application/json"
+media_type Csv = codes "text/csv"
+media_type Wave = codes "audio/wav"
+media_type Flac = codes "audio/flac"
+
+-- says that the connection closes after this reply, where it does
+abbrev pub closing : Bool → List ℕ
+closing true = line (codes "Connection: close")
+closing false = []
+
+-- the lines of a reply up to its body
+abbrev pub spelled_head : Bool → Reply → List ℕ
+spelled_head closes reply =
+    line (codes "HTTP/1.1 " ++ decimal reply.status ++ codes " " ++ reason reply.status)
+    ++ line (codes "Content-Type: " ++ media_type reply.kind)
+    ++ line (codes "Content-Length: " ++ decimal (length reply.body))
+    ++ closing closes
+    ++ line []
+
+-- the bytes of a reply
+abbrev pub spelled : Bool → Reply → List ℕ
+spelled closes reply = spelled_head closes reply ++ reply.body
+
+-- the bytes of replies, one after another
+abbrev pub spelled_all : List Reply → List ℕ
+spelled_all [] = []
+spelled_all (reply ∷ replies) = spelled false reply ++ spelled_all replies
+
+-- a reply of JSON
+abbrev pub json : ℕ → List ℕ → Reply
+json status body = record { status = status; kind = Json; body = body }
+
+-- a refusal that is named by a word
+abbrev pub refusal : ℕ → List ℕ → Reply
+refusal status word = json status (codes "{\"error\":\"" ++ word ++ codes "\"}")
+
+-- bytes that begin no request
+abbrev pub frame_refusal : Reply
+frame_refusal = refusal 400 (codes "frame")
+
+-- an input that is too long
+abbrev pub size_refusal : Reply
+size_refusal = refusal 413 (codes "size")
+
+-- no number is left for a new recording
+abbrev pub ids_refusal : Reply
+ids_refusal = refusal 409 (codes "ids")
+
+-- the vault counted a fault
+abbrev pub vault_refusal : Reply
+vault_refusal = refusal 502 (codes "vault")
+
+-- want of memory
+abbrev pub memory_refusal : Reply
+memory_refusal = refusal 503 (codes "memory")
+
+-- the keeper counted a fault
+abbrev pub keeper_refusal : Reply
+keeper_refusal = refusal 504 (codes "keeper")
+
+-- a file breaks a rule at a place
+abbrev pub format_refusal : Rule → ℕ → Reply
+format_refusal rule place =
+    json 422 (codes "{\"error\":\"format\",\"place\":" ++ decimal place ++ codes ",\"rule\":\"" ++ rule_text rule ++ codes "\"}")
+
+-- a recording as it is answered: its frames, its id and the greatest size of its samples
+abbrev pub recording_text : ℕ → ℕ → ℕ → List ℕ
+recording_text frames id sample_peak =
+    codes "{\"frames\":" ++ decimal frames
+    ++ codes ",\"id\":" ++ decimal id
+    ++ codes ",\"sample_peak\":" ++ decimal sample_peak
+    ++ codes "}"

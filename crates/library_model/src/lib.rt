@@ -1,0 +1,10 @@
+//! What a reader must believe of the library as a machine: its states, its requests, the step that
+//! answers one, the bytes that ask and the bytes that reply, and what tables and blobs stand for.
+//!
+//! The definitions stand in `specs/`, and hold no algorithm. Here stand the plain types that
+//! definitions and code share.
+#![tactic(auto)]
+
+mod messages;
+
+pub use messages::{BodyKind, Command, Reply, Request};

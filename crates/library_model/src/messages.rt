@@ -1,0 +1,32 @@
+//! What is asked of the library, and what it replies.
+use lib_base::Bytes;
+
+/// What a reply's body is.
+#[derive(Clone, Copy, Debug, PartialEq, Eq)]
+pub enum BodyKind {
+    Json,
+    Csv,
+    Wave,
+    Flac,
+}
+
+/// A reply: a status of HTTP and a body.
+#[derive(Debug, Drop)]
+pub struct Reply {
+    pub status: u16,
+    pub kind: BodyKind,
+    pub body: Bytes,
+}
+
+/// What changes the library.
+#[derive(Debug, Drop)]
+pub enum Command {
+    /// A file to be kept as a new recording.
+    Import { bytes: Bytes },
+}
+
+/// A request for a change.
+#[derive(Debug, Drop)]
+pub struct Request {
+    pub command: Command,
+}

@@ -1,0 +1,77 @@
+use Rattle.std.proofs.Common.{refl, ap}
+use Rattle.catalogue_core.specs.declared.libraries.OpenRefusal.TheVariants as refusal
+use Rattle.report_cli.specs.Running.{seen, Course, not_opened, served}
+use Rattle.report_cli.specs.Statuses.{code}
+use Rattle.report_cli.proofs.RunLemmas.{opened_empty, bad_opened}
+use Rattle.report_cli.proofs.running.run_session.Goals as goal
+
+pub returns-in-Ok-clause-runs : goal.returns-in-Ok-clause-runs
+returns-in-Ok-clause-runs g c = λ words is.
+    let ran = c.serve.ensures.serves c.in-Ok.ensures.begins in (
+      served ran.0 ran.1,
+      (
+        is,
+        record {
+          empty = opened_empty _ c.in-Ok.library c.in-Ok.ensures.begins c.in-Ok.ensures.opens;
+          opened = seen (g.S.Source.left c.args.source.now) (g.K.Sink.written c.args.sink.now) (g.D.Keeper.tables c.open.new.keeper)
+              (g.V.Vault.blobs c.args.vault.now) (g.D.Keeper.faults c.open.new.keeper) (g.V.Vault.faults c.args.vault.now);
+          opens = record { left = refl; tables = c.in-Ok.ensures.tables; blobs = refl; keeper_faults = c.in-Ok.ensures.later; vault_faults = refl };
+          unwritten = refl;
+          library = c.in-Ok.library;
+          keeps = c.in-Ok.ensures.begins;
+          ran = ran.2;
+        },
+        ap code ran.3,
+      ),
+    )
+
+pub returns-in-Err-KeeperFault-clause-runs : goal.returns-in-Err-KeeperFault-clause-runs
+returns-in-Err-KeeperFault-clause-runs g c = λ words is. (
+  not_opened refusal.KeeperFault,
+  (
+    is,
+    record {
+      left = refl;
+      tables = c.open.ensures.tables;
+      blobs = refl;
+      keeper_faults = c.open.ensures.later;
+      vault_faults = refl;
+    },
+    refl,
+    refl,
+  ),
+)
+
+pub returns-in-Err-BadRow-clause-runs : goal.returns-in-Err-BadRow-clause-runs
+returns-in-Err-BadRow-clause-runs g c = λ words is. (
+  not_opened (refusal.BadRow c.in-Err-BadRow.row),
+  (
+    is,
+    record {
+      left = refl;
+      tables = c.open.ensures.tables;
+      blobs = refl;
+      keeper_faults = c.open.ensures.later;
+      vault_faults = refl;
+    },
+    bad_opened _ _ _ c.in-Err-BadRow.field-0-is c.in-Err-BadRow.ensures.opens,
+    c.print_bad_row.ensures.prints,
+  ),
+)
+
+pub returns-in-Err-Memory-clause-runs : goal.returns-in-Err-Memory-clause-runs
+returns-in-Err-Memory-clause-runs g c = λ words is. (
+  not_opened refusal.Memory,
+  (
+    is,
+    record {
+      left = refl;
+      tables = c.open.ensures.tables;
+      blobs = refl;
+      keeper_faults = c.open.ensures.later;
+      vault_faults = refl;
+    },
+    refl,
+    refl,
+  ),
+)

@@ -1,0 +1,166 @@
+//! A run of the program: its words, the opening of the library, and the command.
+ghost use Rattle.std.specs.Prelude.{◌≡◌, ◌≢◌, ◌≤◌, ◌↔◌, ◌⊎◌, ℕ, List, false, map, IfSome, IfOk, IsSome, IsTrue, string_bytes};
+ghost use Rattle.lib_base.specs.Faults.{Rose};
+ghost use Rattle.catalogue_core.specs.Opening.{first_bad};
+ghost use Rattle.keeper_store.specs.Changes.{empty_tables};
+ghost use Rattle.catalogue_core.specs.Kept.{kept_tables};
+ghost use Rattle.report_cli.specs.Running.{seen, IsCommand, IsBrokenOff, usage_line, bad_row_line, Prints, Course, Runs, SessionRan};
+ghost use Rattle.report_cli.specs.Statuses.{code, status_of};
+ghost use Rattle.library_http.specs.declared.serving.How.{How};
+
+use crate::statuses::Status;
+use catalogue_core::{BadRow, Library, OpenRefusal};
+use keeper_store::{Keeper, Vault};
+use lib_base::{Door, Memory, Outside, Sink, Source, write_all};
+use library_http::session;
+use std::alloc::Global;
+
+/// The line for words that are no command.
+const USAGE: &[u8] = b"usage: loudlib session, serve, report, audit, trial or tag\n";
+
+/// Runs the command that the words give, over these objects, and answers the exit status.
+///
+/// `session` opens the library of the keeper's tables, reads the source to its end, answers the
+/// requests in it in order, and writes their replies to the sink. Other words are no command.
+pub fn run<S: Source, K: Sink, D: Keeper, V: Vault, O: Door>(
+    alloc: Global,
+    words: &[String],
+    source: &mut S,
+    sink: &mut K,
+    keeper: &mut D,
+    vault: &mut V,
+    door: &mut O,
+) -> u8
+    requires { O.is_out door.old ≡ false }
+
+    ensures runs { (course : Course) × Runs course (map string_bytes words.now)
+        (seen (S.left source.old) (K.written sink.old) (D.tables keeper.old) (V.blobs vault.old) (D.faults keeper.old) (V.faults vault.old))
+        (seen (S.left source.new) (K.written sink.new) (D.tables keeper.new) (V.blobs vault.new) (D.faults keeper.new) (V.faults vault.new))
+        result }
+
+    // The causes of the statuses.
+    ensures usage_cause { result ≡ code Status.Usage → ¬ IsCommand (map string_bytes words.now) }
+    ensures usage { ¬ IsCommand (map string_bytes words.now) → (result ≡ code Status.Usage) ⊎ IsBrokenOff result }
+    ensures source_cause { result ≡ code Status.SourceFault → Rose (S.faults source.old) (S.faults source.new) }
+    ensures sink_cause { result ≡ code Status.SinkFault → Rose (K.faults sink.old) (K.faults sink.new) }
+    ensures keeper_cause { result ≡ code Status.KeeperFault → Rose (D.faults keeper.old) (D.faults keeper.new) }
+    ensures bad_row_cause { result ≡ code Status.BadRow → IfSome (D.tables keeper.old) (λ t. IsSome (first_bad t)) }
+    ensures bad_row { IsCommand (map string_bytes words.now) → IfSome (D.tables keeper.old) (λ t. IsSome (first_bad t)
+        → (result ≡ code Status.BadRow) ⊎ ((result ≡ code Status.KeeperFault) ⊎ IsBrokenOff result)) }
+
+    // No count of faults falls.
+    ensures source_later { S.faults source.old ≤ S.faults source.new }
+    ensures sink_later { K.faults sink.old ≤ K.faults sink.new }
+    ensures keeper_later { D.faults keeper.old ≤ D.faults keeper.new }
+    ensures vault_later { V.faults vault.old ≤ V.faults vault.new }
+
+    // No command lets a connection in.
+    ensures door { door.new ≡ door.old }
+    ensures none_out { O.is_out door.new ≡ false }
+{
+    if is_session(words) {
+        run_session(alloc, source, sink, keeper, vault).code()
+    } else {
+        print(sink, USAGE, Status::Usage).code()
+    }
+}
+
+/// Opens the library, and answers the session.
+fn run_session<S: Source, K: Sink, D: Keeper, V: Vault>(
+    alloc: Global,
+    source: &mut S,
+    sink: &mut K,
+    keeper: &mut D,
+    vault: &mut V,
+) -> Status
+    ensures runs { (words : List (List ℕ)) → IsCommand words → (course : Course) × Runs course words
+        (seen (S.left source.old) (K.written sink.old) (D.tables keeper.old) (V.blobs vault.old) (D.faults keeper.old) (V.faults vault.old))
+        (seen (S.left source.new) (K.written sink.new) (D.tables keeper.new) (V.blobs vault.new) (D.faults keeper.new) (V.faults vault.new))
+        (code result) }
+    ensures no_usage { result ≢ Status.Usage }
+    ensures source_cause { result ≡ Status.SourceFault → Rose (S.faults source.old) (S.faults source.new) }
+    ensures sink_cause { result ≡ Status.SinkFault → Rose (K.faults sink.old) (K.faults sink.new) }
+    ensures keeper_cause { result ≡ Status.KeeperFault → Rose (D.faults keeper.old) (D.faults keeper.new) }
+    ensures bad_row_cause { result ≡ Status.BadRow → IfSome (D.tables keeper.old) (λ t. IsSome (first_bad t)) }
+    ensures source_later { S.faults source.old ≤ S.faults source.new }
+    ensures sink_later { K.faults sink.old ≤ K.faults sink.new }
+    ensures keeper_later { D.faults keeper.old ≤ D.faults keeper.new }
+    ensures vault_later { V.faults vault.old ≤ V.faults vault.new }
+{
+    match Library::open(alloc, keeper) {
+        Ok(library) => serve(alloc, library, source, sink, keeper, vault),
+        Err(OpenRefusal::KeeperFault) => Status::KeeperFault,
+        Err(OpenRefusal::BadRow(row)) => print_bad_row(alloc, row, sink),
+        Err(OpenRefusal::Memory) => Status::Memory,
+    }
+}
+
+/// Runs a session over a library that was opened.
+fn serve<S: Source, K: Sink, D: Keeper, V: Vault>(
+    alloc: Global,
+    mut library: Library,
+    source: &mut S,
+    sink: &mut K,
+    keeper: &mut D,
+    vault: &mut V,
+) -> Status
+    ensures serves { kept_tables library ≡ empty_tables → (how : How) × (answered : ℕ) × SessionRan library how answered
+        (seen (S.left source.old) (K.written sink.old) (D.tables keeper.old) (V.blobs vault.old) (D.faults keeper.old) (V.faults vault.old))
+        (seen (S.left source.new) (K.written sink.new) (D.tables keeper.new) (V.blobs vault.new) (D.faults keeper.new) (V.faults vault.new))
+        × (result ≡ status_of how) }
+    ensures source_cause { result ≡ Status.SourceFault → Rose (S.faults source.old) (S.faults source.new) }
+    ensures sink_cause { result ≡ Status.SinkFault → Rose (K.faults sink.old) (K.faults sink.new) }
+    ensures source_later { S.faults source.old ≤ S.faults source.new }
+    ensures sink_later { K.faults sink.old ≤ K.faults sink.new }
+    ensures keeper_later { D.faults keeper.old ≤ D.faults keeper.new }
+    ensures vault_later { V.faults vault.old ≤ V.faults vault.new }
+{
+    let end = session(alloc, &mut library, keeper, vault, source, sink);
+    Status::of_session(end.how)
+}
+
+/// Writes the line for a row that breaks a rule.
+fn print_bad_row<K: Sink>(alloc: Global, row: BadRow, sink: &mut K) -> Status
+    ensures prints { Prints (bad_row_line row) Status.BadRow (K.written sink.old) (K.written sink.new) (code result) }
+    ensures cause { result ≡ Status.SinkFault → Rose (K.faults sink.old) (K.faults sink.new) }
+    ensures later { K.faults sink.old ≤ K.faults sink.new }
+{
+    match bad_row_text(alloc, row) {
+        Ok(text) => print(sink, text.as_bytes(), Status::BadRow),
+        Err(Memory) => Status::Memory,
+    }
+}
+
+/// The line for a row that breaks a rule.
+fn bad_row_text(alloc: Global, row: BadRow) -> Result<String, Memory>
+    ensures { IfOk result (λ text. string_bytes text ≡ bad_row_line row) }
+{
+    let text = format!(in alloc;
+        "bad row: table {} id {} rule {}\n",
+        row.table, row.id, row.rule
+    )?;
+    Ok(text)
+}
+
+/// Whether the words are the command `session`.
+fn is_session(words: &[String]) -> bool
+    ensures { IsTrue result ↔ IsCommand (map string_bytes words.now) }
+{
+    match words {
+        [word] => word.as_str() == "session",
+        _ => false,
+    }
+}
+
+/// Writes a line, and answers the status that is meant, or why the line wasn't written whole.
+fn print<K: Sink>(sink: &mut K, line: &[u8], meant: Status) -> Status
+    ensures prints { Prints line.now meant (K.written sink.old) (K.written sink.new) (code result) }
+    ensures cause { result ≡ Status.SinkFault → meant ≢ Status.SinkFault → Rose (K.faults sink.old) (K.faults sink.new) }
+    ensures later { K.faults sink.old ≤ K.faults sink.new }
+{
+    match write_all(sink, line) {
+        Ok(()) => meant,
+        Err(Outside::Failed) => Status::SinkFault,
+        Err(Outside::Memory) => Status::Memory,
+    }
+}

@@ -1,0 +1,5 @@
+pub mod Answers
+pub mod Heads
+pub mod Shape
+pub use Rattle.file_model.specs.Reading
+pub use Rattle.file_model.specs.Wave
