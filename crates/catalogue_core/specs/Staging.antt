@@ -47,3 +47,9 @@ abbrev pub IfReady : Result Staged Memory → (Prepared → Type 0) → Type 0
 IfReady (Ok (Ready p)) P = P p
 IfReady (Ok (Refused reply)) P = ⊤
 IfReady (Err e) P = ⊤
+
+-- a refusal other than 502 leaves the vault as it was
+abbrev pub LeavesUnlessFailed : {V : Type 0} → Result Staged Memory → V → V → Type 0
+LeavesUnlessFailed (Ok (Refused reply)) old new = reply.status ≢ 502 → new ≡ old
+LeavesUnlessFailed (Ok (Ready p)) old new = ⊤
+LeavesUnlessFailed (Err e) old new = ⊤

@@ -15,6 +15,8 @@ mod opening;
 mod prepared;
 mod reply_texts;
 mod staging;
+#[cfg(test)]
+mod tests;
 
 pub use committing::commit;
 pub use libraries::{BadRow, Library, OpenRefusal};

@@ -6,7 +6,7 @@ ghost use Rattle.library_model.specs.State.{State};
 ghost use Rattle.catalogue_core.specs.Committing.{Fits};
 ghost use Rattle.catalogue_core.specs.Imports.{StagesAccepted, lacks_numbers};
 ghost use Rattle.catalogue_core.specs.Kept.{kept_tables, Keeps};
-ghost use Rattle.catalogue_core.specs.Staging.{StagedFrom, HoldsFileOf, IfReady};
+ghost use Rattle.catalogue_core.specs.Staging.{StagedFrom, HoldsFileOf, IfReady, LeavesUnlessFailed};
 
 use crate::examining::{Examined, Levels, examine};
 use crate::importing::prepare_import;
@@ -31,10 +31,11 @@ pub fn stage<V: Vault>(
     ensures fits { IfReady result (Fits library.new) }
     ensures kept { kept_tables library.new ≡ kept_tables library.old }
 
-    // The vault changes under the next take alone, which holds the file of what is ready.
+    // The vault changes under the next take alone, which holds the file of what is ready, and not at a refusal other than 502.
     ensures others { Goes (OthersKept (kept_tables library.old).next_take) (V.blobs vault.old) (V.blobs vault.new) }
     ensures file { IfReady result (λ _. Goes (λ _ new. HoldsFileOf request.command (kept_tables library.old).next_take new)
         (V.blobs vault.old) (V.blobs vault.new)) }
+    ensures untouched { LeavesUnlessFailed result vault.old vault.new }
     ensures later { V.faults vault.old ≤ V.faults vault.new }
     ensures changes { RoseByOneAtMost (V.changes vault.old) (V.changes vault.new) }
 {
@@ -56,6 +57,7 @@ fn stage_import<V: Vault>(
     ensures others { Goes (OthersKept (kept_tables library.old).next_take) (V.blobs vault.old) (V.blobs vault.new) }
     ensures file { IfReady result (λ _. Goes (λ _ new. new (kept_tables library.old).next_take ≡ Some file)
         (V.blobs vault.old) (V.blobs vault.new)) }
+    ensures untouched { LeavesUnlessFailed result vault.old vault.new }
     ensures later { V.faults vault.old ≤ V.faults vault.new }
     ensures changes { RoseByOneAtMost (V.changes vault.old) (V.changes vault.new) }
 {
@@ -79,6 +81,7 @@ fn stage_accepted<V: Vault>(
     ensures others { Goes (OthersKept (kept_tables library.old).next_take) (V.blobs vault.old) (V.blobs vault.new) }
     ensures file { IfReady result (λ _. Goes (λ _ new. new (kept_tables library.old).next_take ≡ Some file.now)
         (V.blobs vault.old) (V.blobs vault.new)) }
+    ensures untouched { LeavesUnlessFailed result vault.old vault.new }
     ensures later { V.faults vault.old ≤ V.faults vault.new }
     ensures changes { RoseByOneAtMost (V.changes vault.old) (V.changes vault.new) }
 {

@@ -1,5 +1,7 @@
-use crate::{Framed, frame, memory_reply, spell};
-use lib_base::{Bytes, Memory, Span};
+use crate::{Framed, How, SessionEnd, frame, memory_reply, session, spell};
+use catalogue_core::Library;
+use keeper_store::{MemKeeper, MemVault, Tables};
+use lib_base::{Bytes, MemSink, MemSource, Memory, Span};
 use library_model::{BodyKind, Reply};
 use std::alloc::{AllocError, Global};
 use std::test::Fail;
@@ -112,5 +114,84 @@ fn spells(rt: HostRuntime) -> Result<(), Fail> {
         spell(rt.alloc(), &memory, false)?.as_slice(),
         memory_reply()
     );
+    Ok(())
+}
+
+/// An import of a wave of four samples: 0, 16384, -16384 and 1.
+const IMPORT: &[u8] =
+    b"POST /recordings HTTP/1.1\r\nContent-Length: 52\r\n\r\nRIFF\x2c\0\0\0WAVEfmt \x10\0\0\0\x01\0\x01\0\x80\xbb\0\0\0\x77\x01\0\x02\0\x10\0data\x08\0\0\0\0\0\0\x40\0\xc0\x01\0";
+
+const CREATED: &str =
+    "HTTP/1.1 201 Created\r\nContent-Type: application/json\r\nContent-Length: 39\r\n\r\n{\"frames\":4,\"id\":1,\"sample_peak\":16384}";
+
+const CUT: &str =
+    "HTTP/1.1 400 Bad Request\r\nContent-Type: application/json\r\nContent-Length: 17\r\nConnection: close\r\n\r\n{\"error\":\"frame\"}";
+
+const VAULT: &str =
+    "HTTP/1.1 502 Bad Gateway\r\nContent-Type: application/json\r\nContent-Length: 17\r\n\r\n{\"error\":\"vault\"}";
+
+const KEEPER: &str =
+    "HTTP/1.1 504 Gateway Timeout\r\nContent-Type: application/json\r\nContent-Length: 18\r\n\r\n{\"error\":\"keeper\"}";
+
+/// Which call of each object fails, from 1, or none at 0. The first call of the keeper opens the
+/// library.
+#[derive(Clone, Copy, Debug)]
+struct Failing {
+    source: u32,
+    sink: u32,
+    keeper: u32,
+    vault: u32,
+}
+
+const NONE: Failing = Failing {
+    source: 0,
+    sink: 0,
+    keeper: 0,
+    vault: 0,
+};
+
+#[test]
+fn serves_sessions(rt: HostRuntime) -> Result<(), Fail> {
+    let alloc = rt.alloc();
+    let cut = IMPORT.split_at(IMPORT.len() - 1).0;
+    for (input, failing, how, answered, want) in [
+        (IMPORT, NONE, How::Ended, 1, CREATED),
+        (cut, NONE, How::Unframeable, 0, CUT),
+        (IMPORT, Failing { sink: 1, ..NONE }, How::SinkFault, 0, ""),
+        (
+            IMPORT,
+            Failing { source: 1, ..NONE },
+            How::SourceFault,
+            0,
+            "",
+        ),
+        (IMPORT, Failing { vault: 1, ..NONE }, How::Ended, 1, VAULT),
+        (IMPORT, Failing { keeper: 2, ..NONE }, How::Ended, 1, KEEPER),
+    ] {
+        let mut source = MemSource::new(
+            Bytes::copy(alloc, input)?,
+            [failing.source].to_vec(alloc)?,
+        );
+        let mut sink = MemSink::new(alloc, [failing.sink].to_vec(alloc)?);
+        let mut vault = MemVault::new(alloc, [failing.vault].to_vec(alloc)?);
+        let mut keeper = MemKeeper::new(
+            alloc,
+            Tables::empty(alloc),
+            [failing.keeper].to_vec(alloc)?,
+        );
+        let Ok(mut library) = Library::open(alloc, &mut keeper) else {
+            return Err("the library opens".into());
+        };
+        let end = session(
+            alloc,
+            &mut library,
+            &mut keeper,
+            &mut vault,
+            &mut source,
+            &mut sink,
+        );
+        assert_eq!(rt; end, SessionEnd { how, answered }, "{failing:?}");
+        assert_eq!(rt; sink.written(), want.as_bytes(), "{failing:?}");
+    }
     Ok(())
 }

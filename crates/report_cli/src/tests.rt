@@ -1,21 +1,26 @@
 //! Runs over objects in memory.
+use self::Piece::{
+    BadRow, Broken, CutImport, First, Frame, Import, NoKeeper, NoVault, Nothing, Question, Second,
+    Size, TwoChannels, Usage,
+};
 use crate::running::run;
 use keeper_store::{Keeper, MemKeeper, MemVault, Tables, Vault};
 use lib_base::{Bytes, MemDoor, MemSink, MemSource, Memory};
 use std::alloc::Global;
 use std::test::Fail;
 
-/// The lines that ask for the import of a file of 52 bytes.
-const HEAD: &[u8] = b"POST /recordings HTTP/1.1\r\nHost: a\r\nContent-Length: 52\r\n\r\n";
-
 /// A wave file of 52 bytes: one channel, 16 bits, 48,000 samples a second, and the samples 0, 16384,
 /// -16384 and 1.
 const WAVE: &[u8] =
     b"RIFF,\0\0\0WAVEfmt \x10\0\0\0\x01\0\x01\0\x80\xbb\0\0\0\x77\x01\0\x02\0\x10\0data\x08\0\0\0\0\0\0\x40\0\xc0\x01\0";
 
-/// The same file with two channels in its head.
+/// The import of that file.
+const IMPORT: &[u8] =
+    b"POST /recordings HTTP/1.1\r\nHost: a\r\nContent-Length: 52\r\n\r\nRIFF,\0\0\0WAVEfmt \x10\0\0\0\x01\0\x01\0\x80\xbb\0\0\0\x77\x01\0\x02\0\x10\0data\x08\0\0\0\0\0\0\x40\0\xc0\x01\0";
+
+/// The import of the same file with two channels in its head.
 const TWO_CHANNELS: &[u8] =
-    b"RIFF,\0\0\0WAVEfmt \x10\0\0\0\x01\0\x02\0\x80\xbb\0\0\0\x77\x01\0\x02\0\x10\0data\x08\0\0\0\0\0\0\x40\0\xc0\x01\0";
+    b"POST /recordings HTTP/1.1\r\nHost: a\r\nContent-Length: 52\r\n\r\nRIFF,\0\0\0WAVEfmt \x10\0\0\0\x01\0\x02\0\x80\xbb\0\0\0\x77\x01\0\x02\0\x10\0data\x08\0\0\0\0\0\0\x40\0\xc0\x01\0";
 
 const FIRST: &[u8] =
     b"HTTP/1.1 201 Created\r\nContent-Type: application/json\r\nContent-Length: 39\r\n\r\n{\"frames\":4,\"id\":1,\"sample_peak\":16384}";
@@ -39,6 +44,52 @@ const KEEPER: &[u8] =
     b"HTTP/1.1 504 Gateway Timeout\r\nContent-Type: application/json\r\nContent-Length: 18\r\n\r\n{\"error\":\"keeper\"}";
 
 const USAGE: &[u8] = b"usage: loudlib session, serve, report, audit, trial or tag\n";
+
+const BAD_ROW: &[u8] = b"bad row: table 1 id 1 rule 0\n";
+
+const CUT_IMPORT: &[u8] = b"POST /recordings HTTP/1.1\r\nContent-Length: 52\r\n\r\nRIFF";
+
+const QUESTION: &[u8] = b"GET /recordings/9 HTTP/1.1\r\nHost: a\r\n\r\n";
+
+/// A piece of an input or of an output.
+#[derive(Clone, Copy, Debug)]
+enum Piece {
+    Nothing,
+    Import,
+    TwoChannels,
+    CutImport,
+    Question,
+    First,
+    Second,
+    Broken,
+    Frame,
+    Size,
+    NoVault,
+    NoKeeper,
+    Usage,
+    BadRow,
+}
+
+impl Piece {
+    fn bytes(self) -> &'static [u8] {
+        match self {
+            Nothing => b"",
+            Import => IMPORT,
+            TwoChannels => TWO_CHANNELS,
+            CutImport => CUT_IMPORT,
+            Question => QUESTION,
+            First => FIRST,
+            Second => SECOND,
+            Broken => BROKEN,
+            Frame => FRAME,
+            Size => SIZE,
+            NoVault => VAULT,
+            NoKeeper => KEEPER,
+            Usage => USAGE,
+            BadRow => BAD_ROW,
+        }
+    }
+}
 
 /// The call that fails, counted from 1, of one of the objects.
 #[derive(Clone, Copy, Debug)]
@@ -103,30 +154,30 @@ fn calls(alloc: Global, call: Option<u32>) -> Result<Vec<u32>, Memory> {
 }
 
 /// The pieces, one after another.
-fn joined(alloc: Global, pieces: &[&[u8]]) -> Result<Vec<u8>, Memory> {
+fn joined(alloc: Global, pieces: &[Piece]) -> Result<Vec<u8>, Memory> {
     let mut bytes = Vec::new(alloc);
     for piece in pieces {
-        bytes.extend_from_slice(piece)?;
+        bytes.extend_from_slice(piece.bytes())?;
     }
     Ok(bytes)
 }
 
-fn all_words(alloc: Global, texts: &[&str]) -> Result<Vec<String>, Memory> {
+/// The word, `count` times.
+fn repeated(alloc: Global, word: &str, count: u8) -> Result<Vec<String>, Memory> {
     let mut words = Vec::new(alloc);
-    for text in texts {
-        words.push(String::from_str(alloc, text)?)?;
+    for _ in 0..count {
+        words.push(String::from_str(alloc, word)?)?;
     }
     Ok(words)
 }
 
 fn outcome_of(
     alloc: Global,
-    words: &[&str],
+    words: Vec<String>,
     input: Vec<u8>,
     tables: Tables,
     fault: Fault,
 ) -> Result<Outcome, Memory> {
-    let words = all_words(alloc, words)?;
     let mut source = MemSource::new(Bytes::of(input), calls(alloc, fault.of_source())?);
     let mut sink = MemSink::new(alloc, calls(alloc, fault.of_sink())?);
     let mut keeper = MemKeeper::new(alloc, tables, calls(alloc, fault.of_keeper())?);
@@ -152,92 +203,34 @@ fn outcome_of(
 #[test]
 fn answers_and_statuses(rt: HostRuntime) -> Result<(), Fail> {
     let alloc = rt.alloc();
-    let get = b"GET /recordings/9 HTTP/1.1\r\nHost: a\r\n\r\n".as_slice();
-    let cut = b"POST /recordings HTTP/1.1\r\nContent-Length: 52\r\n\r\nRIFF".as_slice();
-    for (name, input, fault, output, status) in [
-        (
-            "first import",
-            [HEAD, WAVE, b"", b""],
-            Fault::Nowhere,
-            [FIRST, b""],
-            0,
-        ),
-        (
-            "two channels",
-            [HEAD, TWO_CHANNELS, b"", b""],
-            Fault::Nowhere,
-            [BROKEN, b""],
-            0,
-        ),
-        (
-            "two imports",
-            [HEAD, WAVE, HEAD, WAVE],
-            Fault::Nowhere,
-            [FIRST, SECOND],
-            0,
-        ),
-        (
-            "cut",
-            [HEAD, WAVE, cut, b""],
-            Fault::Nowhere,
-            [FIRST, FRAME],
-            2,
-        ),
-        ("empty", [b"", b"", b"", b""], Fault::Nowhere, [b"", b""], 0),
-        (
-            "question",
-            [get, b"", b"", b""],
-            Fault::Nowhere,
-            [FRAME, b""],
-            2,
-        ),
-        (
-            "keeper at opening",
-            [HEAD, WAVE, b"", b""],
-            Fault::Keeper(1),
-            [b"", b""],
-            6,
-        ),
-        (
-            "keeper",
-            [HEAD, WAVE, HEAD, WAVE],
-            Fault::Keeper(2),
-            [KEEPER, FIRST],
-            0,
-        ),
-        (
-            "vault",
-            [HEAD, WAVE, b"", b""],
-            Fault::Vault(1),
-            [VAULT, b""],
-            0,
-        ),
-        (
-            "source",
-            [HEAD, WAVE, b"", b""],
-            Fault::Source(1),
-            [b"", b""],
-            3,
-        ),
-        (
-            "sink",
-            [HEAD, WAVE, b"", b""],
-            Fault::Sink(1),
-            [b"", b""],
-            4,
-        ),
+    for (input, fault, output, status) in [
+        ([Import, Nothing], Fault::Nowhere, [First, Nothing], 0),
+        ([TwoChannels, Import], Fault::Nowhere, [Broken, First], 0),
+        ([Import, Import], Fault::Nowhere, [First, Second], 0),
+        ([Import, CutImport], Fault::Nowhere, [First, Frame], 2),
+        ([Nothing, Nothing], Fault::Nowhere, [Nothing, Nothing], 0),
+        ([Question, Nothing], Fault::Nowhere, [Frame, Nothing], 2),
+        ([Import, Nothing], Fault::Keeper(1), [Nothing, Nothing], 6),
+        ([Import, Import], Fault::Keeper(2), [NoKeeper, First], 0),
+        ([Import, Nothing], Fault::Vault(1), [NoVault, Nothing], 0),
+        ([Import, Nothing], Fault::Source(1), [Nothing, Nothing], 3),
+        ([Import, Nothing], Fault::Sink(1), [Nothing, Nothing], 4),
     ] {
-        let input = joined(alloc, input.as_slice())?;
+        let bytes = joined(alloc, input.as_slice())?;
         let want = joined(alloc, output.as_slice())?;
         let got = outcome_of(
             alloc,
-            ["session"].as_slice(),
-            input,
+            repeated(alloc, "session", 1)?,
+            bytes,
             Tables::empty(alloc),
             fault,
         )?;
-        assert_eq!(rt; got.status, status, "at {name}");
-        assert_eq!(rt; got.sink.written(), want.as_slice(), "at {name}");
+        assert_eq!(rt; got.status, status, "at {input:?}, {fault:?}");
+        assert_eq!(rt;
+            got.sink.written(),
+            want.as_slice(),
+            "at {input:?}, {fault:?}"
+        );
     }
     Ok(())
 }
@@ -245,16 +238,17 @@ fn answers_and_statuses(rt: HostRuntime) -> Result<(), Fail> {
 #[test]
 fn other_words(rt: HostRuntime) -> Result<(), Fail> {
     let alloc = rt.alloc();
-    for words in [
-        [].as_slice(),
-        ["serve"].as_slice(),
-        ["session", "session"].as_slice(),
-        ["sessions"].as_slice(),
+    for (word, count) in [
+        ("session", 0),
+        ("serve", 1),
+        ("sessions", 1),
+        ("session", 2),
     ] {
-        let input = joined(alloc, [HEAD, WAVE].as_slice())?;
+        let words = repeated(alloc, word, count)?;
+        let input = joined(alloc, [Import].as_slice())?;
         let got = outcome_of(alloc, words, input, Tables::empty(alloc), Fault::Nowhere)?;
-        assert_eq!(rt; got.status, 1, "at {words:?}");
-        assert_eq!(rt; got.sink.written(), USAGE, "at {words:?}");
+        assert_eq!(rt; got.status, 1, "at {count} {word}");
+        assert_eq!(rt; got.sink.written(), Usage.bytes(), "at {count} {word}");
     }
     Ok(())
 }
@@ -263,20 +257,16 @@ fn other_words(rt: HostRuntime) -> Result<(), Fail> {
 fn bad_row(rt: HostRuntime) -> Result<(), Fail> {
     let alloc = rt.alloc();
     for (fault, text, status) in [
-        (
-            Fault::Nowhere,
-            b"bad row: table 1 id 1 rule 0\n".as_slice(),
-            7,
-        ),
-        (Fault::Keeper(1), b"".as_slice(), 6),
-        (Fault::Sink(1), b"".as_slice(), 4),
+        (Fault::Nowhere, BadRow, 7),
+        (Fault::Keeper(1), Nothing, 6),
+        (Fault::Sink(1), Nothing, 4),
     ] {
         let mut tables = Tables::empty(alloc);
         tables.next_album = 2;
-        let input = joined(alloc, [HEAD, WAVE].as_slice())?;
-        let got = outcome_of(alloc, ["session"].as_slice(), input, tables, fault)?;
+        let input = joined(alloc, [Import].as_slice())?;
+        let got = outcome_of(alloc, repeated(alloc, "session", 1)?, input, tables, fault)?;
         assert_eq!(rt; got.status, status, "at {fault:?}");
-        assert_eq!(rt; got.sink.written(), text, "at {fault:?}");
+        assert_eq!(rt; got.sink.written(), text.bytes(), "at {fault:?}");
     }
     Ok(())
 }
@@ -284,10 +274,10 @@ fn bad_row(rt: HostRuntime) -> Result<(), Fail> {
 #[test]
 fn keeps_what_was_imported(rt: HostRuntime) -> Result<(), Fail> {
     let alloc = rt.alloc();
-    let input = joined(alloc, [HEAD, WAVE, HEAD, WAVE].as_slice())?;
+    let input = joined(alloc, [Import, Import].as_slice())?;
     let mut got = outcome_of(
         alloc,
-        ["session"].as_slice(),
+        repeated(alloc, "session", 1)?,
         input,
         Tables::empty(alloc),
         Fault::Nowhere,
@@ -320,7 +310,7 @@ fn keeps_what_was_imported(rt: HostRuntime) -> Result<(), Fail> {
 
 /// An import, and then bytes that begin no request, `length` bytes in all.
 fn long_input(alloc: Global, length: usize) -> Result<Vec<u8>, Memory> {
-    let mut bytes = joined(alloc, [HEAD, WAVE].as_slice())?;
+    let mut bytes = joined(alloc, [Import].as_slice())?;
     bytes.resize(length, b'-')?;
     Ok(bytes)
 }
@@ -328,12 +318,12 @@ fn long_input(alloc: Global, length: usize) -> Result<Vec<u8>, Memory> {
 #[test]
 fn limits_the_input(rt: HostRuntime) -> Result<(), Fail> {
     let alloc = rt.alloc();
-    for (length, output) in [(1_048_576, [FIRST, FRAME]), (1_048_577, [SIZE, b""])] {
+    for (length, output) in [(1_048_576, [First, Frame]), (1_048_577, [Size, Nothing])] {
         let input = long_input(alloc, length)?;
         let want = joined(alloc, output.as_slice())?;
         let got = outcome_of(
             alloc,
-            ["session"].as_slice(),
+            repeated(alloc, "session", 1)?,
             input,
             Tables::empty(alloc),
             Fault::Nowhere,

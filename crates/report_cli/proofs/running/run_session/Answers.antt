@@ -1,6 +1,6 @@
 use Rattle.std.proofs.Common.{refl, ap}
 use Rattle.catalogue_core.specs.declared.libraries.OpenRefusal.TheVariants as refusal
-use Rattle.report_cli.specs.Running.{seen, Course, not_opened, served}
+use Rattle.report_cli.specs.Running.{seen, not_opened, served}
 use Rattle.report_cli.specs.Statuses.{code}
 use Rattle.report_cli.proofs.RunLemmas.{opened_empty, bad_opened}
 use Rattle.report_cli.proofs.running.run_session.Goals as goal

@@ -1,0 +1,114 @@
+//! The library over a keeper and a vault in memory.
+ghost use Rattle.std.specs.Prelude.{◌≡◌, Some};
+ghost use Rattle.catalogue_core.specs.Kept.{kept_tables};
+
+use crate::{BadRow, Library, OpenRefusal, Staged, commit, stage};
+use keeper_store::{Keeper, MemKeeper, MemVault, Tables, Vault};
+use lib_base::{Bytes, Memory};
+use library_model::{Command, Reply, Request};
+use std::test::Fail;
+
+/// A wave of the samples 0, 16384, -16384 and 1.
+const FOUR: [u8; 52] =
+    *b"RIFF\x2c\0\0\0WAVEfmt \x10\0\0\0\x01\0\x01\0\x80\xbb\0\0\0\x77\x01\0\x02\0\x10\0data\x08\0\0\0\0\0\0\x40\0\xc0\x01\0";
+
+/// The MD5 of that wave.
+const FOUR_DIGEST: [u8; 16] = *b"\xe2\x2a\x65\x56\xf8\x8f\x1d\x04\xb7\x32\x72\x35\xac\x86\xad\x47";
+
+/// Asks for the import of a file, and answers its reply.
+fn import(
+    library: &mut Library,
+    file: &[u8],
+    keeper: &mut MemKeeper,
+    vault: &mut MemVault,
+) -> Result<Reply, Memory>
+    requires { ⟦<MemKeeper as Keeper>⟧.tables keeper.old ≡ Some (kept_tables library.old) }
+    ensures { ⟦<MemKeeper as Keeper>⟧.tables keeper.new ≡ Some (kept_tables library.new) }
+{
+    let bytes = Bytes::copy(library.alloc, file)?;
+    let request = Request {
+        command: Command::Import { bytes },
+    };
+    match stage(library, request, vault)? {
+        Staged::Refused(reply) => Ok(reply),
+        Staged::Ready(ready) => Ok(commit(library, ready, keeper)),
+    }
+}
+
+#[test]
+fn a_library_opens_over_empty_tables_alone(rt: HostRuntime) -> Result<(), Fail> {
+    let alloc = rt.alloc();
+    let first = BadRow {
+        table: 1,
+        id: 1,
+        rule: 0,
+    };
+    for (next_album, failing, want) in [
+        (1, 2, None),
+        (2, 2, Some(OpenRefusal::BadRow(first))),
+        (1, 1, Some(OpenRefusal::KeeperFault)),
+    ] {
+        let mut tables = Tables::empty(alloc);
+        tables.next_album = next_album;
+        let mut keeper = MemKeeper::new(alloc, tables, [failing].to_vec(alloc)?);
+        let opened = Library::open(alloc, &mut keeper);
+        assert_eq!(rt;
+            opened.err(),
+            want,
+            "next album {next_album}, call {failing} fails"
+        );
+    }
+    Ok(())
+}
+
+// The vault's first call and the keeper's second fail.
+#[test]
+fn imports_are_answered_in_turn(rt: HostRuntime) -> Result<(), Fail> {
+    let alloc = rt.alloc();
+    let mut stereo = FOUR;
+    stereo[22] = 2;
+    let mut keeper = MemKeeper::new(alloc, Tables::empty(alloc), [2].to_vec(alloc)?);
+    let mut vault = MemVault::new(alloc, [1].to_vec(alloc)?);
+    let mut library = Library::open(alloc, &mut keeper)?;
+    for (file, status, body) in [
+        (&stereo, 422, r#"{"error":"format","place":0,"rule":"K0"}"#),
+        (&FOUR, 502, r#"{"error":"vault"}"#),
+        (&FOUR, 504, r#"{"error":"keeper"}"#),
+        (&FOUR, 201, r#"{"frames":4,"id":1,"sample_peak":16384}"#),
+        (&FOUR, 201, r#"{"frames":4,"id":2,"sample_peak":16384}"#),
+    ] {
+        let reply = import(&mut library, file.as_slice(), &mut keeper, &mut vault)?;
+        assert_eq!(rt; reply.status, status, "{body}");
+        assert_eq!(rt; reply.body.as_slice(), body.as_bytes());
+    }
+    Ok(())
+}
+
+#[test]
+fn an_import_is_kept(rt: HostRuntime) -> Result<(), Fail> {
+    let alloc = rt.alloc();
+    let mut keeper = MemKeeper::new(alloc, Tables::empty(alloc), Vec::new(alloc));
+    let mut vault = MemVault::new(alloc, Vec::new(alloc));
+    let mut library = Library::open(alloc, &mut keeper)?;
+    let reply = import(&mut library, FOUR.as_slice(), &mut keeper, &mut vault)?;
+    assert_eq!(rt; reply.status, 201);
+    let tables = keeper.load()?;
+    assert_eq!(rt;
+        (tables.next_album, tables.next_recording, tables.next_take),
+        (1, 2, 2)
+    );
+    let rows = tables.recordings.as_slice();
+    assert_eq!(rt; rows.len(), 1);
+    let row = &rows[0];
+    assert_eq!(rt;
+        (row.id, row.take, row.summary.frames, row.summary.peak),
+        (1, 1, 4, 34_359_738_368)
+    );
+    assert_eq!(rt; row.digest, FOUR_DIGEST);
+    let held = vault.get(1)?;
+    assert_eq!(rt;
+        held.as_ref().map(|bytes| bytes.as_slice()),
+        Some(FOUR.as_slice())
+    );
+    Ok(())
+}
