@@ -16,6 +16,6 @@ Commits p old new before now reply =
     ⊎ (((reply ≡ keeper_refusal) × (new ≡ old) × Rose before now)
     ⊎ ((reply ≡ memory_refusal) × (new ≡ old)))
 
--- the library has the room that the change needs; a change fits the tables from which it was staged until these change
+-- the library has the room that the change needs
 abbrev pub Fits : Library → Prepared → Type 0
 Fits library p = HasRoom library (length p.batch.changes)

@@ -9,7 +9,8 @@ use keeper_store::{Keeper, RecordingRow};
 use lib_base::Outside;
 use std::alloc::Global;
 
-/// A row that breaks a rule: the number of its table, its id there, and the rule's number.
+/// A row that breaks a rule: the number of its table, its id there, and the rule's number. Table 1
+/// is the counters, 2 the albums, 3 the recordings, 4 the segments and 5 the replies.
 #[derive(Clone, Copy, Debug, PartialEq, Eq)]
 pub struct BadRow {
     pub table: u8,
@@ -28,7 +29,7 @@ pub enum OpenRefusal {
     Memory,
 }
 
-/// The library. It keeps the rows of the tables, and stands for no file.
+/// The library: its counters and the rows of its recordings. It holds no file.
 #[derive(Debug, Drop)]
 pub struct Library {
     pub(crate) alloc: Global,
@@ -42,7 +43,7 @@ impl Library {
     ghost use Rattle.catalogue_core.specs.Kept.{kept_tables};
     ghost use Rattle.catalogue_core.specs.Opening.{OpensOver};
 
-    /// Opens the library of the tables that the keeper loads. In this stage it begins empty.
+    /// Opens the library of the tables that the keeper loads. Tables that are not empty are refused.
     pub fn open<D: Keeper>(alloc: Global, keeper: &mut D) -> Result<Library, OpenRefusal>
         ensures opens { IfSome (D.tables keeper.old) (λ t. OpensOver t result) }
         ensures begins { IfOk result (λ library. kept_tables library ≡ empty_tables) }

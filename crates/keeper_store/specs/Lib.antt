@@ -2,5 +2,4 @@ pub mod Blobs
 pub mod Changes
 pub mod Goes
 pub mod Memory
-pub mod Plans
 pub mod Puts

@@ -3,7 +3,7 @@ use Rattle.std.specs.Prelude.{◌≡◌, Bool, true, false, List, [], ◌∷◌,
 use Rattle.std.specs.List.{AllByRecursion}
 use Rattle.keeper_store.specs.declared.row_types.RecordingRow.{RecordingRow}
 
--- a row put in its place: before the first row that isn't less, and in the place of that row where it isn't greater either
+-- a row put in its place among ascending rows: after those that are less, and in place of one that is equal
 abbrev pub put : {A : Type 0} → (A → A → Bool) → A → List A → List A
 put less row [] = row ∷ []
 put less row (r ∷ rs) =

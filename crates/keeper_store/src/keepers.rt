@@ -4,7 +4,7 @@ ghost use Rattle.lib_base.specs.Faults.{Rose};
 ghost use Rattle.keeper_store.specs.Goes.{Goes, RoseByOneAtMost};
 ghost use Rattle.keeper_store.specs.Changes.{Loads, Applies, changed, changed_all};
 ghost use Rattle.keeper_store.specs.Puts.{put, recording_less};
-ghost use Rattle.keeper_store.specs.Plans.{IsDue, CountsCall};
+ghost use Rattle.lib_base.specs.Plan.{CountsCall, IsDue};
 
 use crate::places::put_row;
 use crate::{Batch, Change, RecordingRow, Rows, Tables};
@@ -25,7 +25,7 @@ pub trait Keeper {
     /// How many calls of `apply` there were, held to the last value of its counter.
     ghost applies: { Self → ℕ };
 
-    /// The tables.
+    /// Loads the tables, and leaves them.
     fn load(&mut self) -> Result<Tables, Outside>
         ensures content { Goes (Loads result) (tables self.old) (tables self.new) }
         ensures later { faults self.old ≤ faults self.new }
@@ -83,7 +83,7 @@ impl Keeper for MemKeeper {
         ensures later { ⟦<MemKeeper as Keeper>⟧.faults self.old ≤ ⟦<MemKeeper as Keeper>⟧.faults self.new }
         ensures cause { IsErrOf result Outside.Failed → Rose (⟦<MemKeeper as Keeper>⟧.faults self.old) (⟦<MemKeeper as Keeper>⟧.faults self.new) }
         ensures applies { ⟦<MemKeeper as Keeper>⟧.applies self.new ≡ ⟦<MemKeeper as Keeper>⟧.applies self.old }
-        ensures fails { IsErrOf result Outside.Failed ↔ IsDue (keeper_plan self.old) }
+        ensures fails { IsErrOf result Outside.Failed ↔ IsDue (keeper_plan self.new) }
         ensures quiet { OnOk result (⟦<MemKeeper as Keeper>⟧.faults self.new ≡ ⟦<MemKeeper as Keeper>⟧.faults self.old) }
         ensures plan { CountsCall (keeper_plan self.old) (keeper_plan self.new) }
     {
@@ -99,7 +99,7 @@ impl Keeper for MemKeeper {
         ensures later { ⟦<MemKeeper as Keeper>⟧.faults self.old ≤ ⟦<MemKeeper as Keeper>⟧.faults self.new }
         ensures cause { IsErrOf result Outside.Failed → Rose (⟦<MemKeeper as Keeper>⟧.faults self.old) (⟦<MemKeeper as Keeper>⟧.faults self.new) }
         ensures applies { RoseByOneAtMost (⟦<MemKeeper as Keeper>⟧.applies self.old) (⟦<MemKeeper as Keeper>⟧.applies self.new) }
-        ensures fails { IsErrOf result Outside.Failed ↔ IsDue (keeper_plan self.old) }
+        ensures fails { IsErrOf result Outside.Failed ↔ IsDue (keeper_plan self.new) }
         ensures quiet { OnOk result (⟦<MemKeeper as Keeper>⟧.faults self.new ≡ ⟦<MemKeeper as Keeper>⟧.faults self.old) }
         ensures plan { CountsCall (keeper_plan self.old) (keeper_plan self.new) }
     {

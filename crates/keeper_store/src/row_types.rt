@@ -12,7 +12,8 @@ pub struct AlbumRow {
     pub summary: Summary,
 }
 
-/// A recording: the album that it belongs to, and the take that holds its file.
+/// A recording: the album that it belongs to, the take that holds its file, the bits of a sample,
+/// and the MD5 of the file.
 #[derive(Clone, Debug, Drop)]
 pub struct RecordingRow {
     pub id: u32,
@@ -26,14 +27,14 @@ pub struct RecordingRow {
     pub summary: Summary,
 }
 
-/// The energies of a take.
+/// The weighted segment energies of a take, 11 bytes each, the highest first.
 #[derive(Clone, Debug, Drop)]
 pub struct SegmentRow {
     pub take: u32,
     pub energies: Bytes,
 }
 
-/// The reply that was given to a token, and the mark of its request.
+/// The reply that was given to a token, and the mark of its request: the MD5 of what it asked.
 #[derive(Clone, Debug, Drop)]
 pub struct ReplyRow {
     pub token: Text,

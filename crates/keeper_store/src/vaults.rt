@@ -5,7 +5,7 @@ ghost use Rattle.std.specs.BTreeMap.{get as held_at};
 ghost use Rattle.lib_base.specs.Faults.{Rose};
 ghost use Rattle.keeper_store.specs.Goes.{Goes, RoseByOneAtMost};
 ghost use Rattle.keeper_store.specs.Blobs.{Blobs, Puts, Gets, Drops};
-ghost use Rattle.keeper_store.specs.Plans.{IsDue, CountsCall};
+ghost use Rattle.lib_base.specs.Plan.{CountsCall, IsDue};
 
 use lib_base::{Bytes, Failed, FaultPlan, Outside};
 use std::alloc::Global;
@@ -111,7 +111,7 @@ impl Vault for MemVault {
         ensures calls_later { ⟦<MemVault as Vault>⟧.calls self.old ≤ ⟦<MemVault as Vault>⟧.calls self.new }
         ensures called { Rose (⟦<MemVault as Vault>⟧.calls self.old) (⟦<MemVault as Vault>⟧.calls self.new) }
         ensures changes { RoseByOneAtMost (⟦<MemVault as Vault>⟧.changes self.old) (⟦<MemVault as Vault>⟧.changes self.new) }
-        ensures fails { IsErrOf result Outside.Failed ↔ IsDue (vault_plan self.old) }
+        ensures fails { IsErrOf result Outside.Failed ↔ IsDue (vault_plan self.new) }
         ensures quiet { OnOk result (⟦<MemVault as Vault>⟧.faults self.new ≡ ⟦<MemVault as Vault>⟧.faults self.old) }
         ensures plan { CountsCall (vault_plan self.old) (vault_plan self.new) }
     {
@@ -131,7 +131,7 @@ impl Vault for MemVault {
         ensures calls_later { ⟦<MemVault as Vault>⟧.calls self.old ≤ ⟦<MemVault as Vault>⟧.calls self.new }
         ensures called { Rose (⟦<MemVault as Vault>⟧.calls self.old) (⟦<MemVault as Vault>⟧.calls self.new) }
         ensures changes { ⟦<MemVault as Vault>⟧.changes self.new ≡ ⟦<MemVault as Vault>⟧.changes self.old }
-        ensures fails { IsErrOf result Outside.Failed ↔ IsDue (vault_plan self.old) }
+        ensures fails { IsErrOf result Outside.Failed ↔ IsDue (vault_plan self.new) }
         ensures quiet { OnOk result (⟦<MemVault as Vault>⟧.faults self.new ≡ ⟦<MemVault as Vault>⟧.faults self.old) }
         ensures plan { CountsCall (vault_plan self.old) (vault_plan self.new) }
     {
@@ -151,7 +151,7 @@ impl Vault for MemVault {
         ensures calls_later { ⟦<MemVault as Vault>⟧.calls self.old ≤ ⟦<MemVault as Vault>⟧.calls self.new }
         ensures called { Rose (⟦<MemVault as Vault>⟧.calls self.old) (⟦<MemVault as Vault>⟧.calls self.new) }
         ensures changes { RoseByOneAtMost (⟦<MemVault as Vault>⟧.changes self.old) (⟦<MemVault as Vault>⟧.changes self.new) }
-        ensures fails { IsErr result ↔ IsDue (vault_plan self.old) }
+        ensures fails { IsErr result ↔ IsDue (vault_plan self.new) }
         ensures quiet { OnOk result (⟦<MemVault as Vault>⟧.faults self.new ≡ ⟦<MemVault as Vault>⟧.faults self.old) }
         ensures plan { CountsCall (vault_plan self.old) (vault_plan self.new) }
     {

@@ -16,7 +16,7 @@ pub trait Source {
     /// How many faults it has counted, held to the last value of its counter.
     ghost faults: { Self → ℕ };
 
-    /// Moves bytes from the front of what is left to the front of `into`. None for a piece that
+    /// Moves bytes from the front of what is left to the front of `into`. Zero for a piece that
     /// isn't empty means that the source is at its end. A refusal moves none.
     fn read(&mut self, into: &mut [u8]) -> Result<usize, Failed>
         ensures within { ReadsAtMost result into.new }

@@ -17,7 +17,7 @@ use Rattle.catalogue_core.specs.Committing.{Commits}
 use Rattle.catalogue_core.specs.declared.libraries.Library.{Library}
 use Rattle.catalogue_core.specs.declared.prepared.Prepared.{Prepared}
 use Rattle.catalogue_core.specs.Kept.{kept_tables, Keeps}
-use Rattle.catalogue_core.specs.Staging.{Prepares, RefusesBy, HoldsFileOf}
+use Rattle.catalogue_core.specs.Staging.{Prepares, HoldsFileOf}
 use Rattle.library_http.specs.Sessions.{Acts, Counts, Leads}
 use Rattle.library_http.specs.World.{World, world, RoseBy}
 use Rattle.library_http.proofs.Goings.{Goes-weaker}
@@ -79,22 +79,6 @@ Leads-kept s lib0 lib2 tables0 tables2 blobs0 blobs2 kf0 kf2 vf0 vf2 keeps same 
       rows = Goes-weaker _ _ (λ old new f is. f (is ∙ sym keeps.rows) ∙ same ∙ keeps.rows) tables0 tables2 tables;
       files = Goes-weaker _ _ (λ old new kept held. HoldsFiles-kept s old new keeps.valid held (rw take at kept)) blobs0 blobs2 others;
     }
-
--- a refusal acts with no change
-pub Acts-refused : (s : State) (request : Request) (reply : Reply) (lib0 lib1 : Library) (tables : Option Tables) (blobs0 blobs1 : Option Blobs)
-    (kf vf0 vf1 : ℕ) → Keeps lib0 s → kept_tables lib1 ≡ kept_tables lib0 → RefusesBy s request reply vf0 vf1 → vf0 ≤ vf1
-    → Goes (OthersKept (kept_tables lib0).next_take) blobs0 blobs1
-    → Goes (λ old new. old ≡ kept_tables lib0 → new ≡ kept_tables lib1) tables tables
-    → Acts s request reply (world lib0 tables blobs0 kf vf0) (world lib1 tables blobs1 kf vf1)
-Acts-refused s request reply lib0 lib1 tables blobs0 blobs1 kf vf0 vf1 keeps same refuses later others went = record {
-  next = s;
-  answers = refuses.answers;
-  leads = Leads-kept s lib0 lib1 tables tables blobs0 blobs1 kf kf vf0 vf1 keeps same others went;
-  counts = record {
-    vault = rose_as (reply.status == 502) vf0 vf1 (λ e. refuses.vault (tested reply.status 502 e)) later;
-    keeper = RoseBy-none _ _ _ (count_status-other reply 504 refuses.keeper) (omega arith);
-  };
-}
 
 -- want of memory acts with no change
 pub Acts-memory : (s : State) (request : Request) (lib0 lib1 : Library) (tables : Option Tables) (blobs0 blobs1 : Option Blobs)

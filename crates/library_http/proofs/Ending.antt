@@ -55,13 +55,13 @@ Session-too-long start Unframeable left rest text0 text1 input w keeps long took
 Session-too-long start SinkFault left rest text0 text1 input w keeps long took ends = (
   input,
   took,
-  inr (BreaksOffAtEnd-refusal start input size_refusal 0 [] rest text0 text0 text1 w w
+  inr (BreaksOffAtEnd-refusal start input size_refusal 0 [] rest text0 text0 text1 w w (omega arith)
       (λ within. absurd (omega arith)) (Answered-too-long start input w keeps (omega arith)) (Appends-none text0) ends),
 )
 Session-too-long start Memory left rest text0 text1 input w keeps long took ends = (
   input,
   took,
-  inr (inl (BreaksOffAtEnd-refusal start input size_refusal 0 [] rest text0 text0 text1 w w
+  inr (inl (BreaksOffAtEnd-refusal start input size_refusal 0 [] rest text0 text0 text1 w w (omega arith)
       (λ within. absurd (omega arith)) (Answered-too-long start input w keeps (omega arith)) (Appends-none text0) ends)),
 )
 
@@ -82,9 +82,9 @@ Session-refused start Unframeable n left rest text0 text1 text2 input w0 w1 shor
   stops.2,
 )
 Session-refused start SinkFault n left rest text0 text1 text2 input w0 w1 short took at_end stops ends =
-    (input, took, inr (BreaksOffAtEnd-refusal start input frame_refusal n stops.0 rest text0 text1 text2 w0 w1 (λ _. at_end) stops.2 stops.1 ends))
+    (input, took, inr (BreaksOffAtEnd-refusal start input frame_refusal n stops.0 rest text0 text1 text2 w0 w1 (omega arith) (λ _. at_end) stops.2 stops.1 ends))
 Session-refused start Memory n left rest text0 text1 text2 input w0 w1 short took at_end stops ends =
-    (input, took, inr (inl (BreaksOffAtEnd-refusal start input frame_refusal n stops.0 rest text0 text1 text2 w0 w1 (λ _. at_end) stops.2 stops.1 ends)))
+    (input, took, inr (inl (BreaksOffAtEnd-refusal start input frame_refusal n stops.0 rest text0 text1 text2 w0 w1 (omega arith) (λ _. at_end) stops.2 stops.1 ends)))
 
 -- an end that writes nothing more
 ends_so : (start : State) (how so : How) (n : ℕ) (left rest text0 text1 text2 : Option (List ℕ)) (w0 w1 : World)

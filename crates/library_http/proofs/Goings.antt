@@ -1,5 +1,5 @@
 -- How ghost values go on over several calls: contents, written bytes and counts.
-use Rattle.std.proofs.Common.{◌≡◌, ℕ, ◌+◌, ◌≤◌, Option, None, Some, List, [], ◌++◌, arith}
+use Rattle.std.proofs.Common.{◌≢◌, ◌≡◌, ℕ, ◌+◌, Option, None, Some, List, [], ◌++◌, arith}
 use Rattle.std.specs.Io.KnownBytes.{Appends}
 use Rattle.std.proofs.KnownBytes.{Appends-nil, Appends-trans}
 use Rattle.keeper_store.specs.Goes.{Goes}
@@ -40,8 +40,8 @@ Appends-none a = Appends-nil a
 
 -- Bytes were written, and then a part of others.
 pub Appends-then-part : (a b c : Option (List ℕ)) (xs ys : List ℕ) → Appends a b xs → AppendsPart b c ys
-    → (part : List ℕ) × (unwritten : List ℕ) × (ys ≡ part ++ unwritten) × Appends a c (xs ++ part)
-Appends-then-part a b c xs ys p q = (q.0, q.1, q.2, Appends-trans a b c xs q.0 p q.3)
+    → (part : List ℕ) × (unwritten : List ℕ) × (ys ≡ part ++ unwritten) × (unwritten ≢ []) × Appends a c (xs ++ part)
+Appends-then-part a b c xs ys p q = (q.0, q.1, q.2, q.3, Appends-trans a b c xs q.0 p q.4)
 
 -- ---- counts
 
@@ -52,11 +52,3 @@ RoseBy-then a b x y z p q = omega arith
 -- A count stayed.
 pub RoseBy-none : (x : ℕ) → RoseBy 0 x x
 RoseBy-none x = omega arith
-
--- A count that did not fall rose by none or more.
-pub RoseBy-later : (x y : ℕ) → x ≤ y → RoseBy 0 x y
-RoseBy-later x y p = omega arith
-
--- A count rose by so many, and then by none or more.
-pub RoseBy-kept : (a x y z : ℕ) → RoseBy a x y → RoseBy 0 y z → RoseBy a x z
-RoseBy-kept a x y z p q = omega arith

@@ -190,7 +190,8 @@ Progress-BreaksOff start bytes rest later n text0 text1 text2 request w0 w1 w2 w
       part = more.0;
       unwritten = more.1;
       cut = more.2;
-      written = more.3;
+      left_over = more.3;
+      written = more.4;
       counted = progress.counted;
     }
 
@@ -214,13 +215,14 @@ Answered-too-long start input w keeps long =
 
 -- A session breaks off where all requests were answered, and the refusal that ends it was written in part.
 pub BreaksOffAtEnd-refusal : (start : State) (input : List ℕ) (reply : Reply) (n : ℕ) (replies : List Reply)
-    (left text0 text1 text2 : Option (List ℕ)) (w0 w1 : World) → (length input ≤ input_limit → IsAtEnd left)
+    (left text0 text1 text2 : Option (List ℕ)) (w0 w1 : World) → length input ≤ input_limit + 1 → (length input ≤ input_limit → IsAtEnd left)
     → Answered start input (unframeable reply) n replies w0 w1
     → Appends text0 text1 (spelled_all replies) → AppendsPart text1 text2 (spelled true reply)
     → BreaksOffAtEnd start input n left text0 text2 w0 w1
-BreaksOffAtEnd-refusal start input reply n replies left text0 text1 text2 w0 w1 whole answered written partly =
+BreaksOffAtEnd-refusal start input reply n replies left text0 text1 text2 w0 w1 within whole answered written partly =
     let more = Appends-then-part text0 text1 text2 (spelled_all replies) (spelled true reply) written partly in
     record {
+      within = within;
       whole = whole;
       replies = replies;
       reply = reply;
@@ -228,7 +230,8 @@ BreaksOffAtEnd-refusal start input reply n replies left text0 text1 text2 w0 w1 
       part = more.0;
       unwritten = more.1;
       cut = more.2;
-      written = more.3;
+      left_over = more.3;
+      written = more.4;
     }
 
 -- The output of a session that ends with its last request is its replies.

@@ -1,5 +1,5 @@
 -- What a session does.
-use Rattle.std.specs.Prelude.{◌≡◌, ◌≤◌, ◌+◌, ◌⊎◌, ℕ, true, false, List, [], ◌∷◌, ◌++◌, length, Option, Some, None}
+use Rattle.std.specs.Prelude.{◌≡◌, ◌≢◌, ◌≤◌, ◌+◌, ◌⊎◌, ℕ, true, false, List, [], ◌∷◌, ◌++◌, length, Option, Some, None}
 use Rattle.std.specs.Io.KnownBytes.{Appends, Consumes, IsAtEnd}
 use Rattle.keeper_store.specs.Goes.{Goes}
 use Rattle.library_model.specs.declared.messages.Reply.{Reply}
@@ -94,12 +94,14 @@ pub record BreaksOff (start : State) (input : List ℕ) (answered : ℕ) (text_b
   pub part : List ℕ
   pub unwritten : List ℕ
   pub cut : spelled false reply ≡ part ++ unwritten
+  pub left_over : unwritten ≢ []
   pub written : Appends text_before text_now (spelled_all replies ++ part)
   pub counted : answered ≡ length replies
 
 -- A session broke off in the refusal that ends its input, which was read whole: all its requests were answered, and a part
 -- of the refusal was written.
 pub record BreaksOffAtEnd (start : State) (input : List ℕ) (answered : ℕ) (left_now text_before text_now : Option (List ℕ)) (before now : World) : Type 0 where
+  pub within : length input ≤ input_limit + 1
   pub whole : length input ≤ input_limit → IsAtEnd left_now
   pub replies : List Reply
   pub reply : Reply
@@ -107,6 +109,7 @@ pub record BreaksOffAtEnd (start : State) (input : List ℕ) (answered : ℕ) (l
   pub part : List ℕ
   pub unwritten : List ℕ
   pub cut : spelled true reply ≡ part ++ unwritten
+  pub left_over : unwritten ≢ []
   pub written : Appends text_before text_now (spelled_all replies ++ part)
 
 -- A session found no memory to read into, and did nothing.

@@ -16,8 +16,8 @@ use lib_base::{Bytes, Memory, Outside, Sink, write_all};
 use library_model::{Command, Reply, Request};
 use std::alloc::Global;
 
-/// Answers a request from the state that the library keeps. None is want of memory, which changes
-/// nothing.
+/// Answers a request from the state that the library keeps. None is want of memory, which leaves the
+/// state.
 pub fn answer<D: Keeper, V: Vault>(
     library: &mut Library,
     request: Request,
@@ -37,7 +37,7 @@ pub fn answer<D: Keeper, V: Vault>(
     }
 }
 
-/// Answers the import of a file. None is want of memory, which changes nothing.
+/// Answers the import of a file. None is want of memory, which leaves the state.
 pub fn answer_import<D: Keeper, V: Vault>(
     alloc: Global,
     library: &mut Library,
@@ -72,23 +72,18 @@ pub fn write_given<K: Sink>(
     ensures cause { IsErrOf result Outside.Failed → Rose (K.faults sink.old) (K.faults sink.new) }
 {
     match given {
-        Some(reply) => write_reply(alloc, reply, false, sink),
+        Some(reply) => write_reply(alloc, reply, sink),
         None => write_all(sink, memory_reply()),
     }
 }
 
 /// Writes a reply. A refusal leaves a part of its bytes written, from the front.
-pub fn write_reply<K: Sink>(
-    alloc: Global,
-    reply: &Reply,
-    closes: bool,
-    sink: &mut K,
-) -> Result<(), Outside>
-    ensures ok { OnOk result (Appends (K.written sink.old) (K.written sink.new) (spelled closes reply.now)) }
-    ensures err { OnErr result (AppendsPart (K.written sink.old) (K.written sink.new) (spelled closes reply.now)) }
+pub fn write_reply<K: Sink>(alloc: Global, reply: &Reply, sink: &mut K) -> Result<(), Outside>
+    ensures ok { OnOk result (Appends (K.written sink.old) (K.written sink.new) (spelled false reply.now)) }
+    ensures err { OnErr result (AppendsPart (K.written sink.old) (K.written sink.new) (spelled false reply.now)) }
     ensures later { K.faults sink.old ≤ K.faults sink.new }
     ensures cause { IsErrOf result Outside.Failed → Rose (K.faults sink.old) (K.faults sink.new) }
 {
-    let text = spell(alloc, reply, closes)?;
+    let text = spell(alloc, reply, false)?;
     write_all(sink, text.as_slice())
 }

@@ -4,7 +4,7 @@
 //! `session` answers a whole input. It promises that the sink gains exactly the replies of the
 //! input's requests in order, each from the state that the one before left, that the library, the
 //! keeper's tables and the vault's files are those of the state after them, and that each end and
-//! each fault that is answered has its cause.
+//! each fault that is answered has its cause, want of memory aside.
 #![tactic(auto)]
 
 mod answering;
@@ -13,7 +13,7 @@ mod serving;
 mod spelling;
 
 pub use framing::{Framed, frame};
-pub use serving::{How, SessionEnd, Stop, session};
+pub use serving::{How, SessionEnd, session};
 pub use spelling::{memory_reply, spell};
 
 #[cfg(test)]

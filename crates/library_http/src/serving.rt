@@ -44,10 +44,13 @@ pub struct SessionEnd {
 /// Where the serving of an input stops.
 #[derive(Clone, Copy, Debug, PartialEq, Eq)]
 pub enum Stop {
+    /// Nothing is left.
     AtEnd,
     /// What no request begins is left, and its refusal is due.
     AtRefusal,
+    /// A write failed.
     AtSinkFault,
+    /// Want of memory.
     AtMemory,
 }
 

@@ -1,3 +1,4 @@
+//! Requests, replies, and whole sessions.
 use crate::{Framed, How, SessionEnd, frame, memory_reply, session, spell};
 use catalogue_core::Library;
 use keeper_store::{MemKeeper, MemVault, Tables};

@@ -9,6 +9,7 @@ use Rattle.keeper_store.specs.Puts.{put, recording_less}
 use Rattle.keeper_store.specs.declared.contents.Change.TheVariants.{Counters, PutRecording}
 use Rattle.keeper_store.specs.declared.contents.Tables.{Tables}
 use Rattle.keeper_store.specs.declared.row_types.RecordingRow.{RecordingRow}
+use Rattle.keeper_store.proofs.Putting.{map-put}
 use Rattle.library_model.specs.Machine.{imported, new_recording}
 use Rattle.library_model.specs.Stands.{HoldsFiles, recording_row, tables_of}
 use Rattle.library_model.specs.State.{Recording, State, IsValid, IsGiven, Ascend, Differ, empty_state, numbers_end, recording_before}
@@ -47,26 +48,6 @@ pub put-last : {A : Type 0} (less : A → A → Bool) (row : A) (rows : List A)
     → AllByRecursion (λ r. less r row ≡ true) rows → put less row rows ≡ rows ++ row ∷ []
 put-last less row [] all = refl
 put-last less row (r ∷ rows) all = rw all.0 (ap (λ l. r ∷ l) (put-last less row rows all.1))
-
--- The image of a choice of places is the choice of the images.
-pub place-map : {A B : Type 0} (f : A → B) (later earlier : Bool) (x r : A) (rs placed : List A)
-    → map f (if later then r ∷ placed else if earlier then x ∷ r ∷ rs else x ∷ rs)
-    ≡ (if later then f r ∷ map f placed else if earlier then f x ∷ f r ∷ map f rs else f x ∷ map f rs)
-place-map f true earlier x r rs placed = refl
-place-map f false true x r rs placed = refl
-place-map f false false x r rs placed = refl
-
--- To put a row and then map is to map and then put the image, where the tests agree.
-pub map-put : {A B : Type 0} (f : A → B) (less : A → A → Bool) (less' : B → B → Bool)
-    → ((a b : A) → less' (f a) (f b) ≡ less a b) → (x : A) (xs : List A)
-    → map f (put less x xs) ≡ put less' (f x) (map f xs)
-map-put f less less' agree x [] = refl
-map-put f less less' agree x (r ∷ rs) =
-    rw (agree r x, agree x r) (
-    place-map f (less r x) (less x r) x r rs (put less x rs)
-    ∙ ap (λ placed. if less r x then f r ∷ placed else if less x r then f x ∷ f r ∷ map f rs else f x ∷ map f rs)
-    (map-put f less less' agree x rs)
-    )
 
 -- ---- one more recording
 
@@ -152,7 +133,7 @@ tables_of-imported s file samples =
       segments = [];
       replies = [];
     } in after)
-    (map-put recording_row recording_before recording_less (λ a b. refl) (new_recording s file samples) s.recordings)
+    (map-put recording_before recording_less recording_row (λ a b. refl) (new_recording s file samples) s.recordings)
 
 -- Blobs that hold another file under the next take hold the files of the state.
 pub HoldsFiles-kept : (s : State) (old new : Blobs) → IsValid s → HoldsFiles old s.recordings

@@ -82,11 +82,6 @@ ending (unframeable reply) = spelled true reply
 abbrev pub output : List Reply → End → List ℕ
 output replies end = spelled_all replies ++ ending end
 
--- the exit status of a session whose input ends so
-abbrev pub end_status : End → ℕ
-end_status ended = 0
-end_status (unframeable reply) = 2
-
 -- what is left after the requests ends them so
 abbrev pub EndsAs : List ℕ → End → Type 0
 EndsAs rest ended = rest ≡ []

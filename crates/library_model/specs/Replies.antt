@@ -10,7 +10,7 @@ use Rattle.library_model.specs.declared.messages.Reply.{Reply}
 abbrev pub line : List ℕ → List ℕ
 line text = text ++ 13 ∷ 10 ∷ []
 
--- the reason phrase of each status that the library replies with (RFC 9110 section 15)
+-- the reason phrase of a status, empty for those that no reply has (RFC 9110 section 15)
 abbrev pub reason : ℕ → List ℕ
 reason status =
     if status == 200 then codes "OK"

@@ -53,7 +53,7 @@ tables_of s = record {
 abbrev pub HoldsFiles : Blobs → List Recording → Type 0
 HoldsFiles blobs recordings = AllByRecursion (λ (r : Recording). blobs r.take ≡ Some r.file) recordings
 
--- Tables and blobs stand for a state: a valid one, whose tables and files they are. What other keys hold is free.
+-- Tables and blobs stand for a state: a valid one, whose tables and files they are. Other keys may hold anything or nothing.
 pub record Stands (tables : Tables) (blobs : Blobs) (s : State) : Type 0 where
   pub valid : IsValid s
   pub rows : tables ≡ tables_of s

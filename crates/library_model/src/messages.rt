@@ -4,9 +4,13 @@ use lib_base::Bytes;
 /// What a reply's body is.
 #[derive(Clone, Copy, Debug, PartialEq, Eq)]
 pub enum BodyKind {
+    /// `application/json`
     Json,
+    /// `text/csv`
     Csv,
+    /// `audio/wav`
     Wave,
+    /// `audio/flac`
     Flac,
 }
 

@@ -68,7 +68,7 @@ Prints line meant text_before text_now n =
     ((n ≡ code meant) × Appends text_before text_now line)
     ⊎ (IsBrokenOff n × AppendsPart text_before text_now line)
 
--- The source, the keeper's tables and the vault are as they were, and the sink gained nothing.
+-- The source, the keeper's tables and the vault are as they were. The keeper may have counted faults.
 pub record Leaves (before now : Seen) : Type 0 where
   pub left : now.left ≡ before.left
   pub tables : Goes (λ old new. new ≡ old) before.tables now.tables

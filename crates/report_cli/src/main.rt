@@ -20,7 +20,7 @@ use std::env::Env;
 use std::process::ExitCode;
 use std::{env, io};
 
-/// The words of the command line, after the program's name. There is none where one can't be read.
+/// The words of the command line, after the program's name. Where one can't be read there are none.
 fn words<R: Env + AllocGlobal>(rt: &R, alloc: Global) -> Result<Vec<String>, Memory> {
     match env::args(rt) {
         Ok(words) => {

@@ -21,7 +21,8 @@ const USAGE: &[u8] = b"usage: loudlib session, serve, report, audit, trial or ta
 /// Runs the command that the words give, over these objects, and answers the exit status.
 ///
 /// `session` opens the library of the keeper's tables, reads the source to its end, answers the
-/// requests in it in order, and writes their replies to the sink. Other words are no command.
+/// requests in it in order, and writes their replies to the sink. Other words are no command. No
+/// command uses the door yet.
 pub fn run<S: Source, K: Sink, D: Keeper, V: Vault, O: Door>(
     alloc: Global,
     words: &[String],

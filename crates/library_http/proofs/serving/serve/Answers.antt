@@ -74,7 +74,7 @@ requests-preserved g c =
     let request : Request = record { command = Import file } in
     let shorter : length (drop c.in-Import.body.end rest) < length rest =
     Begins-shorter rest request (drop c.in-Import.body.end rest) (file, refl, c.in-Import.ensures.begins) in
-    let same = ap length c.split_at.ensures.back in (
+    let same = ap length {y = drop c.in-Import.body.end c.requests.rest.now} c.split_at.ensures.back in (
       omega (arith, shorter, same, c.requests.invariant.0),
       λ start keeps.
           let progress = c.requests.invariant.1 start keeps in
