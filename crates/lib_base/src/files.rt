@@ -2,6 +2,8 @@
 ghost use Rattle.std.specs.Prelude.{◌≡◌};
 ghost use Rattle.lib_base.specs.Kinds.{kind_named};
 
+use crate::Energies;
+
 /// The bytes from `start` to before `end`.
 #[derive(Clone, Copy, Debug, PartialEq, Eq)]
 pub struct Span {
@@ -25,6 +27,19 @@ pub fn kind_of(bytes: &[u8]) -> Option<Kind>
         [b'f', b'L', b'a', b'C', ..] => Some(Kind::Flac),
         _ => None,
     }
+}
+
+/// What is measured of a sound.
+///
+/// The energies are those of its segments of 4,800 frames, weighted over the channels, and the peak
+/// is in units of 2^-36 of full scale.
+#[derive(Clone, Debug, Drop)]
+pub struct Measured {
+    pub channels: u8,
+    pub depth: u8,
+    pub frames: u64,
+    pub energies: Energies,
+    pub peak: u64,
 }
 
 /// The levels of a recording or of an album.

@@ -18,10 +18,10 @@ mod tests;
 mod values;
 
 pub use doors::{Door, MemDoor};
-pub use files::{Kind, Span, Summary, kind_of};
+pub use files::{Kind, Measured, Span, Summary, kind_of};
 pub use outcomes::{Broken, Failed, Memory, Outside, Refused, Rule};
 pub use plans::FaultPlan;
 pub use sinks::{MemSink, Sink, write_all};
 pub use sounds::{PcmSound, Scratch, Sound};
 pub use sources::{MemSource, ReadEnd, Source, Taken, read_up_to};
-pub use values::{Bytes, Cells, Text};
+pub use values::{Bytes, Cells, Energies, Text};

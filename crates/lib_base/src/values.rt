@@ -1,4 +1,4 @@
-//! Bytes, cells and texts that contracts see as lists.
+//! Bytes, cells, energies and texts that contracts see as lists.
 ghost use Rattle.std.specs.Prelude.{◌≡◌, length, IfOk, string_bytes};
 
 use crate::Memory;
@@ -99,6 +99,48 @@ impl Cells {
         ensures value { result.now ≡ self.old }
     {
         self.items.as_mut_slice()
+    }
+
+    pub fn len(&self) -> usize
+        ensures { result ≡ length self.now }
+    {
+        self.items.len()
+    }
+}
+
+/// Energies that contracts see as a list.
+#[derive(Clone, Debug, Drop)]
+pub struct Energies {
+    items: Vec<u128>,
+}
+
+impl Model for Energies {
+    ghost use Rattle.std.specs.Prelude.{List, ℕ};
+
+    ghost Value = { List ℕ };
+
+    ghost view = { λ e. e.items.items };
+}
+
+impl Energies {
+    /// The energies of a vector, with no memory taken.
+    pub fn of(items: Vec<u128>) -> Energies
+        ensures { result ≡ items.items }
+    {
+        Energies { items }
+    }
+
+    /// The vector, given back with no memory taken.
+    pub fn into_vec(self) -> Vec<u128>
+        ensures { result.items ≡ self }
+    {
+        self.items
+    }
+
+    pub fn as_slice(&self) -> &[u128]
+        ensures { result.now ≡ self.now }
+    {
+        self.items.as_slice()
     }
 
     pub fn len(&self) -> usize
