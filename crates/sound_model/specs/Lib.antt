@@ -1,0 +1,9 @@
+pub mod Blocks
+pub mod Levels
+pub mod Loudness
+pub mod Peaks
+pub mod Ranges
+pub mod Segments
+pub mod Summaries
+pub mod Texts
+pub mod Weighted

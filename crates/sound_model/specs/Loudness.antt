@@ -1,0 +1,56 @@
+-- Gated loudness, in hundredths of LUFS (BS.1770-4 Annex 1; the factor of -0.691 dB in fixed point is the library's own).
+use Rattle.std.specs.Prelude.{◌≡◌, ◌*◌, ◌/◌, ◌^◌, ◌==◌, ℕ, ℤ, Bool, List, [], ◌∷◌, length, sum, filter, max, nat_lt, Option, None, Some, if◌then◌else◌, ⊤}
+use Rattle.sound_model.specs.Levels.{IsLevel, hundredths}
+
+-- 10^7 times the square of full scale, 2^54, times 10^0.0691: the power that stands for 0 LUFS
+abbrev pub full_power : ℕ
+full_power = 2 ^ 54 * 11724653
+
+-- both absent, or both there and related
+abbrev pub IfThere : {A B : Type 0} → (A → B → Type 0) → Option A → Option B → Type 0
+IfThere R None None = ⊤
+IfThere R None (Some y) = ⊥
+IfThere R (Some x) None = ⊥
+IfThere R (Some x) (Some y) = R x y
+
+-- the loudness of a block's energy
+pub record IsBlockLevel (energy : ℕ) (loudness : ℤ) : Type 0 where
+  pub level : ℤ
+  pub of_ratio : IsLevel (125 * energy) (24 * full_power) level
+  pub rounded : loudness ≡ hundredths level
+
+-- the loudness of a window's energy
+pub record IsWindowLevel (energy : ℕ) (loudness : ℤ) : Type 0 where
+  pub level : ℤ
+  pub of_ratio : IsLevel (25 * energy) (36 * full_power) level
+  pub rounded : loudness ≡ hundredths level
+
+-- a block is above -70 LUFS
+unfoldable pub is_audible : ℕ → Bool
+is_audible energy = nat_lt (24 * full_power) (125 * 10 ^ 7 * energy)
+
+-- a block is above the mean of these, less 10 LU
+unfoldable pub is_near : List ℕ → ℕ → Bool
+is_near blocks energy = nat_lt (sum blocks) (10 * length blocks * energy)
+
+-- the blocks that pass both gates: of those above -70 LUFS, those above their mean less 10 LU
+abbrev pub gated : List ℕ → List ℕ
+gated blocks = let audible = filter is_audible blocks in filter (is_near audible) audible
+
+-- the mean of energies, rounded down
+abbrev pub mean : List ℕ → Option ℕ
+mean [] = None
+mean (e ∷ es) = Some (sum (e ∷ es) / length (e ∷ es))
+
+-- the loudness of blocks: that of the mean of those that pass both gates, absent where none does
+abbrev pub IsLoudness : List ℕ → Option ℤ → Type 0
+IsLoudness blocks loudness = IfThere IsBlockLevel (mean (gated blocks)) loudness
+
+-- the greatest of energies, 0 where there is none
+abbrev pub greatest : List ℕ → ℕ
+greatest [] = 0
+greatest (e ∷ es) = max e (greatest es)
+
+-- a number, absent where it is 0
+abbrev pub above_zero : ℕ → Option ℕ
+above_zero n = if n == 0 then None else Some n

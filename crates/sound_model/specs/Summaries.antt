@@ -1,0 +1,41 @@
+-- What is measured of a sound, and the levels that follow from it (BS.1770-4, EBU R 128, Tech 3341 and 3342, ReplayGain 2.0).
+use Rattle.std.specs.Prelude.{◌≡◌, ◌^◌, ℕ, ℤ, neg_ℤ, pos, ◌-ℤ◌, List, length, option_map}
+use Rattle.lib_base.specs.declared.files.Measured.{Measured}
+use Rattle.lib_base.specs.declared.files.Summary.{Summary}
+use Rattle.sound_model.specs.Blocks.{blocks_of, windows_of}
+use Rattle.sound_model.specs.Levels.{IsLevel, hundredths}
+use Rattle.sound_model.specs.Loudness.{IfThere, IsBlockLevel, IsWindowLevel, IsLoudness, above_zero, greatest}
+use Rattle.sound_model.specs.Peaks.{peak_of}
+use Rattle.sound_model.specs.Ranges.{IsRange}
+use Rattle.sound_model.specs.Segments.{energies}
+
+-- what is measured of a sound: the weighted energies of its segments, and its peak
+abbrev pub measured : ℕ → ℕ → List (List ℤ) → Measured
+measured depth frames lists = record {
+  channels = length lists;
+  depth = depth;
+  frames = frames;
+  energies = energies depth frames lists;
+  peak = peak_of depth frames lists;
+}
+
+-- the true peak of a peak, in hundredths of dBTP
+pub record IsPeakLevel (peak : ℕ) (true_peak : ℤ) : Type 0 where
+  pub level : ℤ
+  pub of_ratio : IsLevel (peak ^ 2) (2 ^ 72) level
+  pub rounded : true_peak ≡ hundredths level
+
+-- the gain that brings a loudness to -18 LUFS (ReplayGain 2.0)
+abbrev pub gain_of : ℤ → ℤ
+gain_of loudness = neg_ℤ (pos 1800) -ℤ loudness
+
+-- The levels of so many frames with these energies and this peak. What can't be measured is absent.
+pub record Summarises (frames : ℕ) (segments : List ℕ) (peak : ℕ) (summary : Summary) : Type 0 where
+  pub frames_kept : summary.frames ≡ frames
+  pub loudness : IsLoudness (blocks_of segments) summary.loudness
+  pub range : IsRange (windows_of segments) summary.range
+  pub momentary : IfThere IsBlockLevel (above_zero (greatest (blocks_of segments))) summary.momentary
+  pub short_term : IfThere IsWindowLevel (above_zero (greatest (windows_of segments))) summary.short_term
+  pub true_peak : IfThere IsPeakLevel (above_zero peak) summary.true_peak
+  pub peak_kept : summary.peak ≡ peak
+  pub gain : summary.gain ≡ option_map gain_of summary.loudness
