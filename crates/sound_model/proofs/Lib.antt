@@ -1,0 +1,4 @@
+pub mod LevelLaws
+pub mod LevelTable
+mod WorkedLevels
+mod WorkedTexts
