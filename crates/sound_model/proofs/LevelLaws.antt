@@ -3,7 +3,8 @@ use Rattle.std.proofs.Common.{◌≡◌, ◌<◌, ◌≤◌, ◌+◌, ◌*◌, �
 use Rattle.std.proofs.lemmas.Bool.{cases_lt}
 use Rattle.std.proofs.lemmas.Int.{ints, by_lt_z}
 use Rattle.std.proofs.Math.Nat.{mul-le-mul_left, mul-le-mul_right, le_of_mul-le-mul_left, mul-one, pow-le-pow_right, one-le-pow}
-use Rattle.sound_model.specs.Levels.{IsLevel, IsPowerWithin, IsPlaceWithin, entry}
+use Rattle.sound_model.specs.Levels.{IsLevel, IsPowerWithin, IsPlaceWithin, entry, held_to_buckets, bucket_of}
+use Rattle.std.specs.Int.{int_div_euclid}
 
 -- what c/d reaches, a/b reaches too where it is no less
 reached_by_greater : (a b c d m n : ℕ) → 0 < d → c * b ≤ a * d → d * m ≤ c * n → b * m ≤ a * n
@@ -120,3 +121,21 @@ level_from_root a b n k within next is_place reached passed = record {
         let more : 10 ^ (m + 1) ≤ 10 ^ n = pow-le-pow_right (omega arith) (omega (arith, ints, less)) in
         let scaled = mul-le-mul_left a more in
         omega (arith, scaled, reaches, next)
+
+div_20_rises : (x y : ℤ) → x ≤ℤ y → int_div_euclid x (pos 20) ≤ℤ int_div_euclid y (pos 20)
+div_20_rises (pos a) (pos b) rises = omega (arith, ints)
+div_20_rises (pos a) (negsuc b) rises = omega (arith, ints)
+div_20_rises (negsuc a) (pos b) rises = omega (arith, ints)
+div_20_rises (negsuc a) (negsuc b) rises = omega (arith, ints)
+
+held_rises : (x y : ℤ) → x ≤ℤ y → held_to_buckets x ≤ held_to_buckets y
+held_rises (pos a) (pos b) rises = omega (arith, ints)
+held_rises (pos a) (negsuc b) rises = absurd (omega (arith, ints))
+held_rises (negsuc a) y rises = omega arith
+
+-- a bucket doesn't fall where the level rises
+pub bucket_of-rises : (x y : ℤ) → x ≤ℤ y → bucket_of x ≤ bucket_of y
+unfolding bucket_of
+bucket_of-rises x y rises =
+    held_rises (int_div_euclid (x +ℤ pos 14000) (pos 20)) (int_div_euclid (y +ℤ pos 14000) (pos 20))
+    (div_20_rises (x +ℤ pos 14000) (y +ℤ pos 14000) (omega (arith, ints)))

@@ -79,15 +79,31 @@ entries_rise j (suc k) before within =
     cases step so_far (inl below) = let before_it = so_far below in omega arith
     cases step so_far (inr not_below) = let same : j ≡ k = omega arith in rw same step
 
--- where the next place isn't reached, no later one is
-pub places_pass : (k limit b : ℕ) → limit < entry (k + 1) * b → (j : ℕ) → k < j → j < 2000 → limit < entry j * b
-places_pass k limit b next j after within = cases (cases_lt (k + 1) j)
+-- the entries lie between 1 and 10
+pub first_entry : entry 0 ≡ 10 ^ 9
+unfolding entry
+first_entry = refl
+
+last_entry : entry 1999 < 10 ^ 10
+unfolding entry
+last_entry = omega arith
+
+pub entry_below : (k : ℕ) → k < 2000 → entry k < 10 ^ 10
+entry_below k within = cases (cases_lt k 1999)
   where
-    cases : (k + 1 < j) ⊎ (j ≤ k + 1) → limit < entry j * b
+    cases : (k < 1999) ⊎ (1999 ≤ k) → entry k < 10 ^ 10
+    cases (inl before) = let rises = entries_rise k 1999 before (omega arith) in let last = last_entry in omega (arith, rises, last)
+    cases (inr at_end) = let same : 1999 ≡ k = omega arith in let Below : ℕ → Type 0 = λ i. entry i < 10 ^ 10 in subst Below same last_entry
+
+-- where a place isn't reached, no later one is
+pub later_places_pass : (k limit b : ℕ) → limit < entry k * b → (j : ℕ) → k ≤ j → j < 2000 → limit < entry j * b
+later_places_pass k limit b next j after within = cases (cases_lt k j)
+  where
+    cases : (k < j) ⊎ (j ≤ k) → limit < entry j * b
     cases (inl later) =
-        let more : entry (k + 1) * b ≤ entry j * b = mul-le-mul_right b (let rises = entries_rise (k + 1) j later within in omega arith) in
+        let more : entry k * b ≤ entry j * b = mul-le-mul_right b (let rises = entries_rise k j later within in omega arith) in
         omega arith
     cases (inr no_later) =
-        let same : k + 1 ≡ j = omega arith in
+        let same : k ≡ j = omega arith in
         let Passed : ℕ → Type 0 = λ i. limit < entry i * b in
         subst Passed same next

@@ -1,0 +1,2 @@
+pub use Rattle.sound_model.specs.Levels
+pub use Rattle.sound_model.specs.Texts
