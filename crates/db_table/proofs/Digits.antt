@@ -1,13 +1,14 @@
 -- Numbers padded with zeros are their last digits.
-use Rattle.std.proofs.Common.{◌≡◌, ◌<◌, ◌≤◌, ◌+◌, ◌-◌, ◌/◌, ◌%◌, ◌^◌, ℕ, zero, suc, false, List, [], ◌∷◌, ◌++◌, length, replicate, refl, sym, ap, ◌∙◌, arith, inl, inr, ◌⊎◌, add-one, append_assoc, length-append}
+use Rattle.std.proofs.Common.{◌≡◌, ◌<◌, ◌≤◌, ◌+◌, ◌-◌, ◌/◌, ◌%◌, ◌^◌, ℕ, zero, suc, Bool, true, false, List, [], ◌∷◌, ◌++◌, length, replicate, refl, sym, ap, ◌∙◌, arith, inl, inr, ◌⊎◌, add-one, append_assoc, length-append}
 use Rattle.std.specs.Fmt.{decimal, padded_integral, format_spec, char_count, styled_decimal}
 use Rattle.std.proofs.lemmas.Bool.{cases_lt}
 use Rattle.std.proofs.lemmas.Fmt.{decimal_digit, decimal_step_wide}
 use Rattle.std.proofs.lemmas.List.{replicate_more, append-nil}
 use Rattle.std.proofs.Math.Nat.{pow-succ'}
 use Rattle.sound_model.specs.Texts.{last_digits, sign_text, decimal_text, peak_text, millionths}
-use Rattle.std.proofs.lemmas.Int.{ints}
-use Rattle.std.specs.Prelude.{ℤ, pos, negsuc, ◌<ℤ◌, ◌≤ℤ◌, unsigned_abs, codes}
+use Rattle.std.specs.Int.{is_negative}
+use Rattle.std.proofs.lemmas.Bool.Decides.{nat_tests}
+use Rattle.std.specs.Prelude.{ℤ, pos, negsuc, unsigned_abs, codes}
 
 -- the last digits of 0 are zeros
 last_digits_of_0 : (k : ℕ) → last_digits k 0 ≡ replicate k 48
@@ -68,14 +69,14 @@ six_digits n =
     let none : n % 1000000 % 10 ≡ n % 10 = omega arith in
     rw (five, four, three, two, one, none)
 
--- the sign that a negative number has, and any other has not
-pub sign_of_negative : (value : ℤ) → value <ℤ pos 0 → codes "-" ≡ sign_text value
-sign_of_negative (pos n) less = absurd (omega (arith, ints))
-sign_of_negative (negsuc n) less = refl
+-- the sign of a number that was found negative, and of one that was found not to be
+pub sign_of_negative : (value : ℤ) (answer : Bool) → answer ≡ is_negative value → answer ≡ true → codes "-" ≡ sign_text value
+sign_of_negative (pos n) answer is told = absurd (grind (arith, nat_tests))
+sign_of_negative (negsuc n) answer is told = refl
 
-pub sign_of_other : (value : ℤ) → pos 0 ≤ℤ value → [] ≡ sign_text value
-sign_of_other (pos n) more = refl
-sign_of_other (negsuc n) more = absurd (omega (arith, ints))
+pub sign_of_other : (value : ℤ) (answer : Bool) → answer ≡ is_negative value → answer ≡ false → [] ≡ sign_text value
+sign_of_other (pos n) answer is told = refl
+sign_of_other (negsuc n) answer is told = absurd cc
 
 -- the pieces that the program writes of hundredths
 pub decimal_from_pieces : (value : ℤ) (sign : List ℕ) (size : ℕ) → sign ≡ sign_text value → size ≡ unsigned_abs value

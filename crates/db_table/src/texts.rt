@@ -9,7 +9,7 @@ use std::alloc::Global;
 pub fn decimal_text(alloc: Global, value: i32) -> Result<Text, Memory>
     ensures { IfOk result (λ text. text ≡ decimal_text value) }
 {
-    let sign = if value < 0 { "-" } else { "" };
+    let sign = if value.is_negative() { "-" } else { "" };
     let size = value.unsigned_abs();
     let text = format!(in alloc; "{sign}{}.{:02}", size / 100, size % 100)?;
     Ok(Text::of(text))
