@@ -1,4 +1,6 @@
 pub mod LevelLaws
 pub mod LevelTable
+pub mod RangeLaws
 mod WorkedLevels
+mod WorkedRanges
 mod WorkedTexts
