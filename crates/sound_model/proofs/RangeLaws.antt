@@ -1,15 +1,15 @@
 -- Numbers at places in ascending order: those of a sorted list, of a list in another order, and that there is one only.
 use Rattle.std.proofs.Common.{◌≡◌, ◌<◌, ◌≤◌, ◌+◌, ℕ, suc, Bool, true, false, List, [], ◌∷◌, length, take, drop, get_or, nat_lt, nat_le, refl, sym, ap, ◌∙◌, subst, arith, inl, inr, ◌⊎◌, cond, length-take, length-drop, zero-add}
-use Rattle.std.specs.Prelude.{count_by, ℤ, Option, Some, None}
+use Rattle.std.specs.Prelude.{All, count_by, filter, ℤ, Option, Some, None}
 use Rattle.std.specs.List.Sorted.{IsNonDecreasing, IsPermutation}
 use Rattle.std.proofs.lemmas.Bool.{cases_lt}
 use Rattle.std.proofs.lemmas.Bool.Decides.{nat_tests}
 use Rattle.std.proofs.lemmas.List.{take-append-drop, get_or-take, get_or-drop}
-use Rattle.std.proofs.lemmas.List.Elements.{Contains-get_or}
-use Rattle.std.proofs.lemmas.List.Sums.{sum_by-append, count_by-le-length}
+use Rattle.std.proofs.lemmas.List.Elements.{Contains-get_or, All-filter, filter_passes}
+use Rattle.std.proofs.lemmas.List.Sums.{sum_by-append, count_by-le-length, length-filter}
 use Rattle.std.proofs.lemmas.List.Sorted.{sum_by-IsPermutation, Contains-permutation, length_permutation}
 use Rattle.sound_model.specs.Levels.{IsLevel, hundredths}
-use Rattle.sound_model.specs.Ranges.{IsAtPlace, IsRangeOf, IsRangeWithin, IsRange, gated_windows, percentile_place_of}
+use Rattle.sound_model.specs.Ranges.{IsAtPlace, IsRangeOf, IsRangeWithin, IsRange, gated_windows, is_window_audible, is_window_near, percentile_place_of}
 use Rattle.sound_model.proofs.LevelLaws.{level-unique}
 
 count_by-cons : (p : ℕ → Bool) (x : ℕ) (xs : List ℕ) → count_by p (x ∷ xs) ≡ cond (p x) 1 0 + count_by p xs
@@ -152,3 +152,40 @@ IsRangeWithin-unique (x ∷ xs) (Some r) (Some s) first second = ap Some (IsRang
 -- windows have one range
 pub IsRange-unique : (windows : List ℕ) (r s : Option ℤ) → IsRange windows r → IsRange windows s → r ≡ s
 IsRange-unique windows = IsRangeWithin-unique (gated_windows windows)
+
+-- the range of windows that are there
+pub IsRangeWithin-from_windows : (xs : List ℕ) (range : ℤ) → 0 < length xs → IsRangeOf xs range → IsRangeWithin xs (Some range)
+IsRangeWithin-from_windows [] range some is = absurd (omega arith)
+IsRangeWithin-from_windows (x ∷ xs) range some is = is
+
+-- a window from the first gate on is above 0
+audible_above_0 : (energy : ℕ) → is_window_audible energy ≡ true → 0 < energy
+unfolding is_window_audible
+audible_above_0 energy audible = cases (cases_lt 0 energy)
+  where
+    cases : (0 < energy) ⊎ (energy ≤ 0) → 0 < energy
+    cases (inl above) = above
+    cases (inr none) = let zero_is : energy ≡ 0 = omega arith in absurd (grind (arith, nat_tests))
+
+pub gated_windows_above_0 : (windows : List ℕ) → All (λ (z : ℕ). 0 < z) (gated_windows windows)
+gated_windows_above_0 windows =
+    let audible = filter is_window_audible windows in
+    All-filter (is_window_near audible) (λ (z : ℕ). 0 < z) audible
+    (λ k d within. audible_above_0 _ (filter_passes is_window_audible windows k d within))
+
+-- what holds of all windows holds of those that pass the gates
+pub All-gated_windows : (P : ℕ → Type 0) (windows : List ℕ) → All P windows → All P (gated_windows windows)
+All-gated_windows P windows all =
+    let audible = filter is_window_audible windows in
+    All-filter (is_window_near audible) P audible (All-filter is_window_audible P windows all)
+
+-- the gates add none
+pub length-gated_windows-le : (windows : List ℕ) → length (gated_windows windows) ≤ length windows
+length-gated_windows-le windows =
+    let audible = filter is_window_audible windows in
+    let first = filtered is_window_audible windows in
+    let second = filtered (is_window_near audible) audible in
+    omega arith
+  where
+    filtered : (p : ℕ → Bool) (xs : List ℕ) → length (filter p xs) ≤ length xs
+    filtered p xs = let same = length-filter p xs in let within = count_by-le-length p xs in omega arith
