@@ -1,6 +1,6 @@
 -- Blocks that pass the gates.
-use Rattle.std.proofs.Common.{◌≡◌, ◌≤◌, ◌<◌, ◌+◌, ◌*◌, ◌/◌, ◌^◌, ℕ, Bool, true, false, List, [], ◌∷◌, length, take, cond, refl, sym, ap, ◌∙◌, arith}
-use Rattle.std.specs.Prelude.{filter, sum, nat_lt, ◌&&◌}
+use Rattle.std.proofs.Common.{◌≡◌, ◌≤◌, ◌<◌, ◌/◌, ℕ, Bool, true, false, List, [], ◌∷◌, length, take, cond, refl, sym, ap, ◌∙◌, arith}
+use Rattle.std.specs.Prelude.{filter, sum, ◌&&◌}
 use Rattle.std.specs.List.{All}
 use Rattle.std.proofs.Math.Nat.{div-le_of_le-mul}
 use Rattle.std.proofs.lemmas.Nat.{le-div}
@@ -8,7 +8,7 @@ use Rattle.std.proofs.lemmas.Bool.Decides.{nat_tests}
 use Rattle.std.proofs.lemmas.List.{take_all}
 use Rattle.std.proofs.lemmas.List.Elements.{All-filter, All-weaker, All-head, All-tail, filter_passes}
 use Rattle.std.proofs.lemmas.List.Sums.{sum_by-le, sum_by-cons, length-filter, count_by-le-length}
-use Rattle.sound_model.specs.Loudness.{is_audible, is_near, gated, full_power}
+use Rattle.sound_model.specs.Loudness.{is_audible, is_near, gated}
 use Rattle.gate_blocks.specs.Bounds.{IsTallyOf}
 
 -- a filter of a filter keeps what passes both tests
@@ -17,8 +17,8 @@ filter-filter p q [] = refl
 filter-filter p q (x ∷ xs) =
     let rest = filter-filter p q xs in
     elim (p x) as (λ b. filter q (cond b (x ∷ filter p xs) (filter p xs)) ≡ cond (b && q x) (x ∷ filter (λ y. p y && q y) xs) (filter (λ y. p y && q y) xs)) [
-      true ↦ ap (λ (ys : List ℕ). cond (q x) (x ∷ ys) ys) rest
-    | false ↦ rest
+      | true ↦ ap (λ (ys : List ℕ). cond (q x) (x ∷ ys) ys) rest
+      | false ↦ rest
     ]
 
 -- the blocks that pass both gates, by one test of both

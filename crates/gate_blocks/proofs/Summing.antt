@@ -1,11 +1,11 @@
 -- Sums of neighbouring energies.
-use Rattle.std.proofs.Common.{◌≡◌, ◌≤◌, ◌<◌, ◌+◌, ◌*◌, ℕ, Bool, true, false, List, [], ◌∷◌, ◌++◌, length, take, drop, cond, length-take, length-drop, append_assoc, refl, sym, ap, ◌∙◌, arith}
+use Rattle.std.proofs.Common.{◌≡◌, ◌≤◌, ◌<◌, ◌+◌, ◌*◌, ℕ, suc, true, false, List, [], ◌∷◌, ◌++◌, length, take, drop, cond, length-take, length-drop, append_assoc, refl, sym, ap, ◌∙◌, arith}
 use Rattle.std.specs.Prelude.{nat_le}
 use Rattle.std.specs.List.{All, sum}
 use Rattle.std.proofs.Math.Nat.{mul-le-mul_right}
 use Rattle.std.proofs.lemmas.Bool.Decides.{nat_tests}
 use Rattle.std.proofs.lemmas.List.{drop-drop}
-use Rattle.std.proofs.lemmas.List.Elements.{All-take, All-drop}
+use Rattle.std.proofs.lemmas.List.Elements.{All-take, All-drop, All-nil, All-cons, All-tail}
 use Rattle.std.proofs.lemmas.List.Sums.{sum_by-le}
 use Rattle.lib_base.specs.Sounds.{part}
 use Rattle.sound_model.specs.Blocks.{neighbour_sums}
@@ -51,3 +51,25 @@ sums-grow count place xs sums more next some inside so_far is_next grown =
     let rest = neighbour_sums count (drop (place + 1) xs) in
     let step = neighbour_sums-drop count place xs some inside ∙ ap (λ s. s ∷ rest) (sym is_next) in
     so_far ∙ ap (λ (back : List ℕ). sums ++ back) step ∙ sym (append_assoc sums (next ∷ []) rest) ∙ ap (λ (front : List ℕ). front ++ rest) (sym grown)
+
+-- there are no more sums than energies
+pub length-neighbour_sums : (count : ℕ) (xs : List ℕ) → length (neighbour_sums count xs) ≤ length xs
+length-neighbour_sums count [] = omega arith
+length-neighbour_sums count (e ∷ es) =
+    let rest = length-neighbour_sums count es in
+    elim (nat_le count (length (e ∷ es))) as (λ b. length (cond b (sum (take count (e ∷ es)) ∷ neighbour_sums count es) []) ≤ suc (length es)) [
+      | true ↦ omega (arith, rest)
+      | false ↦ omega arith
+    ]
+
+-- sums of so many energies, each within a bound, are within so many times the bound
+pub All-neighbour_sums : (most count : ℕ) (xs : List ℕ) → All (λ e. e ≤ most) xs → All (λ z. z ≤ count * most) (neighbour_sums count xs)
+All-neighbour_sums most count [] within = All-nil (λ z. z ≤ count * most)
+All-neighbour_sums most count (e ∷ es) within =
+    let Sums : ℕ → Type 0 = λ z. z ≤ count * most in
+    let first : sum (take count (e ∷ es)) ≤ count * most = sum-part-le most count 0 (e ∷ es) within in
+    let rest = All-neighbour_sums most count es (All-tail (λ x. x ≤ most) e es within) in
+    elim (nat_le count (length (e ∷ es))) as (λ b. All Sums (cond b (sum (take count (e ∷ es)) ∷ neighbour_sums count es) [])) [
+      | true ↦ All-cons Sums (sum (take count (e ∷ es))) (neighbour_sums count es) first rest
+      | false ↦ All-nil Sums
+    ]

@@ -5,7 +5,7 @@ ghost use Rattle.sound_model.specs.Segments.{greatest_energy};
 ghost use Rattle.gate_blocks.specs.Bounds.{AreBlocks, IsTallyOf};
 
 /// 10^7 times the square of full scale, 2^54, times 10^0.0691: the power that stands for 0 LUFS.
-const FULL_POWER: u128 = (1 << 54) * 11_724_653;
+pub(crate) const FULL_POWER: u128 = (1 << 54) * 11_724_653;
 
 /// How many energies there are, and their sum.
 #[derive(Clone, Copy)]

@@ -1,6 +1,6 @@
 //! Meters of segments.
 ghost use Rattle.std.specs.Prelude.{◌≡◌, ◌≤◌, ◌<◌, ◌+◌, ◌*◌, ◌%◌, ◌^◌, ℤ, List, [], ◌∷◌, ◌++◌, length, sum_by, IfOk, All, vec_len, vec_capacity};
-ghost use Rattle.gate_blocks.specs.Bounds.{IsWeighted};
+ghost use Rattle.gate_blocks.specs.Bounds.{AreOfChannel, IsWeighted};
 ghost use Rattle.sound_model.specs.Segments.{segments_of, square};
 
 use lib_base::Memory;
@@ -21,6 +21,7 @@ pub struct SegmentMeter {
 
 impl Model for SegmentMeter {
     ghost use Rattle.std.specs.Prelude.{◌≡◌, ◌≤◌, ◌<◌, ◌+◌, ◌*◌, ◌/◌, ◌^◌, length, vec_capacity};
+    ghost use Rattle.gate_blocks.specs.Bounds.{AreOfChannel};
     ghost use Rattle.gate_blocks.specs.Meters.{Meter};
 
     ghost Value = { Meter };
@@ -33,8 +34,8 @@ impl Model for SegmentMeter {
     } };
 
     ghost invariant = { λ m. (m.frames / 4800 ≤ vec_capacity m.energies)
-      × (4800 * length m.energies.items + m.taken ≤ m.frames)
-      × (m.taken < 4800) × (m.after ≤ m.taken * 2 ^ 60) };
+        × (4800 * length m.energies.items + m.taken ≤ m.frames)
+        × (m.taken < 4800) × (m.after ≤ m.taken * 2 ^ 60) × AreOfChannel m.energies.items };
 }
 
 impl SegmentMeter {
@@ -91,7 +92,8 @@ impl SegmentMeter {
 
     /// The energies of the whole segments that were fed so far, one for each.
     pub fn energies(&self) -> &[u128]
-        ensures { (xs : List ℤ) → WasFed self.now xs → result.now ≡ segments_of xs }
+        ensures energies { (xs : List ℤ) → WasFed self.now xs → result.now ≡ segments_of xs }
+        ensures within { AreOfChannel result.now }
     {
         self.energies.as_slice()
     }

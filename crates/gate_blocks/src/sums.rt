@@ -1,7 +1,8 @@
 //! Blocks and windows.
 ghost use Rattle.std.specs.Prelude.{◌≡◌, ◌≤◌, ◌<◌, ◌+◌, ◌*◌, ◌^◌, length, IfOk, sum, All};
 ghost use Rattle.lib_base.specs.Sounds.{part};
-ghost use Rattle.gate_blocks.specs.Bounds.{AreSegments};
+ghost use Rattle.gate_blocks.specs.Bounds.{AreSegments, AreBlocks, AreWindows};
+ghost use Rattle.sound_model.specs.Segments.{greatest_energy};
 ghost use Rattle.sound_model.specs.Blocks.{blocks_of, windows_of, neighbour_sums};
 
 use lib_base::{Energies, Memory};
@@ -17,7 +18,8 @@ const WINDOW: usize = 30;
 /// none.
 pub fn blocks(alloc: Global, segments: &[u128]) -> Result<Energies, Memory>
     requires { AreSegments segments.now }
-    ensures { IfOk result (λ sums. sums ≡ blocks_of segments.now) }
+    ensures sums { IfOk result (λ sums. sums ≡ blocks_of segments.now) }
+    ensures bounds { IfOk result (λ sums. length segments.now ≤ 2 ^ 25 → AreBlocks sums) }
 {
     sums_of_neighbours(alloc, segments, BLOCK)
 }
@@ -25,7 +27,8 @@ pub fn blocks(alloc: Global, segments: &[u128]) -> Result<Energies, Memory>
 /// The energies of the windows, each the sum of 30 neighbouring segments.
 pub fn windows(alloc: Global, segments: &[u128]) -> Result<Energies, Memory>
     requires { AreSegments segments.now }
-    ensures { IfOk result (λ sums. sums ≡ windows_of segments.now) }
+    ensures sums { IfOk result (λ sums. sums ≡ windows_of segments.now) }
+    ensures bounds { IfOk result (λ sums. length segments.now ≤ 2 ^ 25 → AreWindows sums) }
 {
     sums_of_neighbours(alloc, segments, WINDOW)
 }
@@ -34,7 +37,9 @@ fn sums_of_neighbours(alloc: Global, segments: &[u128], count: usize) -> Result<
     requires within { AreSegments segments.now }
     requires some { 0 < count }
     requires few { count ≤ 30 }
-    ensures { IfOk result (λ sums. sums ≡ neighbour_sums count segments.now) }
+    ensures sums { IfOk result (λ sums. sums ≡ neighbour_sums count segments.now) }
+    ensures within { IfOk result (λ sums. All (λ z. z ≤ count * greatest_energy) sums) }
+    ensures few { IfOk result (λ sums. length sums ≤ length segments.now) }
 {
     let places = (segments.len() + 1).saturating_sub(count);
     let mut sums = Vec::with_capacity(alloc, places)?;

@@ -6,5 +6,5 @@ pub returns : goal.returns
 unfolding is_near
 returns c =
     λ energies tally.
-      ap (λ n. nat_lt c.args.audible.sum (10 * n * c.args.energy)) tally.counted
-      ∙ ap (λ total. nat_lt total (10 * length energies * c.args.energy)) tally.summed
+    ap (λ n. nat_lt c.args.audible.sum (10 * n * c.args.energy)) tally.counted
+    ∙ ap (λ total. nat_lt total (10 * length energies * c.args.energy)) tally.summed

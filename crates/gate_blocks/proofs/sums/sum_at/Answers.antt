@@ -1,4 +1,4 @@
-use Rattle.std.proofs.Common.{◌≡◌, ◌≤◌, ◌*◌, take, ap, ◌∙◌, arith}
+use Rattle.std.proofs.Common.{take, ap, ◌∙◌, arith}
 use Rattle.std.specs.List.{sum}
 use Rattle.sound_model.specs.Segments.{greatest_energy}
 use Rattle.gate_blocks.proofs.Summing.{sum-part-le}

@@ -1,6 +1,6 @@
-use Rattle.std.proofs.Common.{◌≡◌, ◌≤◌, ◌+◌, ◌-◌, ℕ, List, ◌++◌, take, drop, length, ap, ◌∙◌, subst, append_assoc, arith}
+use Rattle.std.proofs.Common.{◌≤◌, ◌-◌, List, ◌++◌, take, length, ap, ◌∙◌, subst, append_assoc, arith}
 use Rattle.std.specs.Prelude.{ℤ}
-use Rattle.gate_blocks.specs.Meters.{WasFed, Meter}
+use Rattle.gate_blocks.specs.Meters.{WasFed}
 use Rattle.gate_blocks.proofs.Segmenting.{rest_moves, taken_moves}
 use Rattle.gate_blocks.proofs.meters.SegmentMeter.feed.Goals as goal
 
@@ -19,8 +19,8 @@ loop-rest-preserved c =
       count = omega (arith, c.take_piece.ensures.count, c.split_at.ensures.back_len, c.split_at.ensures.front_len);
       frames = c.take_piece.ensures.frames ∙ now.frames;
       fed = λ xs was.
-        let Fed : List ℤ → Type 0 = λ ys. WasFed c.take_piece.new.self ys in
-        let taken = take (length all - length rest) all in
-        subst Fed (append_assoc xs taken piece ∙ ap (λ (ys : List ℤ). xs ++ ys) moved)
-        (c.take_piece.ensures.fed (xs ++ taken) (now.fed xs was));
+          let Fed : List ℤ → Type 0 = λ ys. WasFed c.take_piece.new.self ys in
+          let taken = take (length all - length rest) all in
+          subst Fed (append_assoc xs taken piece ∙ ap (λ (ys : List ℤ). xs ++ ys) moved)
+          (c.take_piece.ensures.fed (xs ++ taken) (now.fed xs was));
     }
