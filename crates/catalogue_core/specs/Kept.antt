@@ -13,13 +13,15 @@ kept_tables library = record {
   next_take = library.next_take;
   albums = [];
   recordings = library.recordings.items;
-  segments = [];
+  segments = library.segments.items;
   replies = [];
 }
 
--- there is room for so many rows more
+-- there is room for so many rows more in each table
 abbrev pub HasRoom : Library → ℕ → Type 0
-HasRoom library more = vec_len library.recordings + more ≤ vec_capacity library.recordings
+HasRoom library more =
+    (vec_len library.recordings + more ≤ vec_capacity library.recordings)
+    × (vec_len library.segments + more ≤ vec_capacity library.segments)
 
 -- The library keeps a state: a valid one, of which it keeps the tables.
 pub record Keeps (library : Library) (s : State) : Type 0 where

@@ -66,5 +66,6 @@ fn make_change(library: &mut Library, change: Change)
             library.next_take = next_take;
         }
         Change::PutRecording(row) => put_row(&mut library.recordings, row),
+        Change::PutSegments(row) => put_row(&mut library.segments, row),
     }
 }

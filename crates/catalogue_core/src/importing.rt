@@ -30,6 +30,7 @@ pub fn prepare_import(
 {
     let alloc = library.alloc;
     library.recordings.reserve(2)?;
+    library.segments.reserve(2)?;
     let row = new_row(library, file, levels);
     let reply = describe_recording(alloc, 201, levels.frames, row.id, levels.sample_peak)?;
     let keeper_refusal = refuse(alloc, 504, "keeper")?;

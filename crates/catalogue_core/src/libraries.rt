@@ -5,7 +5,7 @@ ghost use Rattle.keeper_store.specs.Goes.{Goes};
 ghost use Rattle.keeper_store.specs.Changes.{empty_tables};
 
 use crate::opening::{bad_row, library_of};
-use keeper_store::{Keeper, RecordingRow};
+use keeper_store::{Keeper, RecordingRow, SegmentRow};
 use lib_base::Outside;
 use std::alloc::Global;
 
@@ -29,7 +29,8 @@ pub enum OpenRefusal {
     Memory,
 }
 
-/// The library: its counters and the rows of its recordings. It holds no file.
+/// The library: its counters, the rows of its recordings and those of their segments. It holds no
+/// file.
 #[derive(Debug, Drop)]
 pub struct Library {
     pub(crate) alloc: Global,
@@ -37,6 +38,7 @@ pub struct Library {
     pub(crate) next_recording: u32,
     pub(crate) next_take: u32,
     pub(crate) recordings: Vec<RecordingRow>,
+    pub(crate) segments: Vec<SegmentRow>,
 }
 
 impl Library {

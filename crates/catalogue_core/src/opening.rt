@@ -39,5 +39,6 @@ pub fn library_of(alloc: Global, tables: Tables) -> Library
         next_recording: tables.next_recording,
         next_take: tables.next_take,
         recordings: tables.recordings.into_vec(),
+        segments: tables.segments.into_vec(),
     }
 }

@@ -1,3 +1,4 @@
 pub mod Changing
+pub mod EnergyRows
 pub mod Putting
 pub mod Worked

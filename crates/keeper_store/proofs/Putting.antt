@@ -5,7 +5,7 @@ use Rattle.std.proofs.Math.Seq.{drop-cons}
 use Rattle.std.proofs.lemmas.List.{take-append-drop, take-set, drop-set}
 use Rattle.std.specs.Prelude.{map}
 use Rattle.std.specs.List.{AllByRecursion}
-use Rattle.keeper_store.specs.Puts.{put, recording_less, IsOrder, Ascends}
+use Rattle.keeper_store.specs.Puts.{put, recording_less, segments_less, IsOrder, Ascends}
 use Rattle.std.proofs.lemmas.Bool.Decides.{nat_tests}
 
 -- a put seen through a function that keeps the order
@@ -101,6 +101,13 @@ lt-chain a b c ab bc = grind (arith, nat_tests)
 -- of two numbers of which neither is less, the one is less than what the other is less than
 lt-level : (a b c : ℕ) → nat_lt a b ≡ false → nat_lt b a ≡ false → nat_lt b c ≡ true → nat_lt a c ≡ true
 lt-level a b c ab ba bc = grind (arith, nat_tests)
+
+-- segments are told apart by their takes
+pub segments_in_order : IsOrder segments_less
+segments_in_order = record {
+  chain = λ a b c. lt-chain a.take b.take c.take;
+  level = λ a b c. lt-level a.take b.take c.take;
+}
 
 -- recordings are told apart by their ids
 pub recordings_in_order : IsOrder recording_less

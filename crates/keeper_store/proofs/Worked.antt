@@ -1,6 +1,8 @@
--- Puts worked by hand.
+-- Puts and rows of energies worked by hand.
 use Rattle.std.specs.Prelude.{◌≡◌, ℕ, Bool, [], ◌∷◌, nat_lt, refl}
+use Rattle.keeper_store.specs.EnergyBytes.{row_bytes, energies_in}
 use Rattle.keeper_store.specs.Puts.{put}
+use Rattle.sound_model.specs.Segments.{greatest_energy}
 
 -- pairs by their first number, as rows by their ids
 abbrev first_less : ℕ × ℕ → ℕ × ℕ → Bool
@@ -23,3 +25,14 @@ highest = refl
 -- in the place of the row of its id
 replaced : put first_less (5, 1) ((2, 0) ∷ (5, 0) ∷ (7, 0) ∷ []) ≡ (2, 0) ∷ (5, 1) ∷ (7, 0) ∷ []
 replaced = refl
+
+-- 258 is 1 * 256 + 2
+two_energies : row_bytes (258 ∷ 1 ∷ []) ≡ 0 ∷ 0 ∷ 0 ∷ 0 ∷ 0 ∷ 0 ∷ 0 ∷ 0 ∷ 0 ∷ 1 ∷ 2 ∷ 0 ∷ 0 ∷ 0 ∷ 0 ∷ 0 ∷ 0 ∷ 0 ∷ 0 ∷ 0 ∷ 0 ∷ 1 ∷ []
+two_energies = refl
+
+-- the greatest energy is 0x2aa08 times 2^64
+of_the_greatest : row_bytes (greatest_energy ∷ []) ≡ 2 ∷ 170 ∷ 8 ∷ 0 ∷ 0 ∷ 0 ∷ 0 ∷ 0 ∷ 0 ∷ 0 ∷ 0 ∷ []
+of_the_greatest = refl
+
+read_from_bytes : energies_in (2 ∷ 170 ∷ 8 ∷ 0 ∷ 0 ∷ 0 ∷ 0 ∷ 0 ∷ 0 ∷ 0 ∷ 0 ∷ 0 ∷ 0 ∷ 0 ∷ 0 ∷ 0 ∷ 0 ∷ 0 ∷ 0 ∷ 0 ∷ 1 ∷ 2 ∷ []) ≡ greatest_energy ∷ 258 ∷ []
+read_from_bytes = refl

@@ -2,8 +2,8 @@
 use Rattle.std.specs.Prelude.{◌≡◌, List, [], ◌∷◌, Result, IfOk, OnOk, OnErr}
 use Rattle.keeper_store.specs.declared.contents.Tables.{Tables}
 use Rattle.keeper_store.specs.declared.contents.Change.{Change}
-use Rattle.keeper_store.specs.declared.contents.Change.TheVariants.{Counters, PutRecording}
-use Rattle.keeper_store.specs.Puts.{put, recording_less}
+use Rattle.keeper_store.specs.declared.contents.Change.TheVariants.{Counters, PutRecording, PutSegments}
+use Rattle.keeper_store.specs.Puts.{put, recording_less, segments_less}
 
 -- no row, and each counter 1
 abbrev pub empty_tables : Tables
@@ -21,6 +21,7 @@ empty_tables = record {
 abbrev pub changed : Change → Tables → Tables
 changed (Counters album recording take) t = record t { next_album = album; next_recording = recording; next_take = take }
 changed (PutRecording row) t = record t { recordings = put recording_less row t.recordings }
+changed (PutSegments row) t = record t { segments = put segments_less row t.segments }
 
 -- the tables after changes, of which the first is made first
 abbrev pub changed_all : List Change → Tables → Tables

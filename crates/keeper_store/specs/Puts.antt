@@ -2,6 +2,7 @@
 use Rattle.std.specs.Prelude.{◌≡◌, Bool, true, false, List, [], ◌∷◌, if◌then◌else◌, nat_lt}
 use Rattle.std.specs.List.{AllByRecursion}
 use Rattle.keeper_store.specs.declared.row_types.RecordingRow.{RecordingRow}
+use Rattle.keeper_store.specs.declared.row_types.SegmentRow.{SegmentRow}
 
 -- a row put in its place among ascending rows: after those that are less, and in place of one that is equal
 abbrev pub put : {A : Type 0} → (A → A → Bool) → A → List A → List A
@@ -14,6 +15,10 @@ put less row (r ∷ rs) =
 -- recordings ascend by their ids
 abbrev pub recording_less : RecordingRow → RecordingRow → Bool
 recording_less a b = nat_lt a.id b.id
+
+-- segments ascend by their takes
+abbrev pub segments_less : SegmentRow → SegmentRow → Bool
+segments_less a b = nat_lt a.take b.take
 
 -- a test of which row comes first
 pub record IsOrder {A : Type 0} (less : A → A → Bool) : Type 0 where

@@ -55,7 +55,7 @@ impl Clone for Tables {
     }
 }
 
-/// One change of the tables. A put replaces the row of its id.
+/// One change of the tables. A put replaces the row of its id or take.
 #[derive(Clone, Debug, Drop)]
 pub enum Change {
     Counters {
@@ -64,6 +64,7 @@ pub enum Change {
         next_take: u32,
     },
     PutRecording(RecordingRow),
+    PutSegments(SegmentRow),
 }
 
 /// Changes, of which the first is made first.

@@ -1,13 +1,13 @@
 //! Where tables are kept.
-ghost use Rattle.std.specs.Prelude.{◌≡◌, ◌≤◌, ◌↔◌, ℕ, Option, Some, IsErrOf, IfOk, OnOk};
+ghost use Rattle.std.specs.Prelude.{◌≡◌, ◌≤◌, ◌↔◌, ℕ, nat_lt, Option, Some, IsErrOf, IfOk, OnOk};
 ghost use Rattle.lib_base.specs.Faults.{Rose};
 ghost use Rattle.keeper_store.specs.Goes.{Goes, RoseByOneAtMost};
 ghost use Rattle.keeper_store.specs.Changes.{Loads, Applies, changed, changed_all};
-ghost use Rattle.keeper_store.specs.Puts.{put, recording_less};
+ghost use Rattle.keeper_store.specs.Puts.{put};
 ghost use Rattle.lib_base.specs.Plan.{CountsCall, IsDue};
 
-use crate::places::put_row;
-use crate::{Batch, Change, RecordingRow, Rows, Tables};
+use crate::places::{Numbered, put_row};
+use crate::{Batch, Change, Rows, Tables};
 use lib_base::{FaultPlan, Memory, Outside};
 use std::alloc::Global;
 use std::mem;
@@ -139,22 +139,22 @@ fn make_change(alloc: Global, tables: &mut Tables, change: &Change) -> Result<()
         }
         Change::PutRecording(row) => {
             let row = row.clone()?;
-            put_recording(alloc, &mut tables.recordings, row)?;
+            put_in(alloc, &mut tables.recordings, row)?;
+        }
+        Change::PutSegments(row) => {
+            let row = row.clone()?;
+            put_in(alloc, &mut tables.segments, row)?;
         }
     }
     Ok(())
 }
 
-fn put_recording(
-    alloc: Global,
-    recordings: &mut Rows<RecordingRow>,
-    row: RecordingRow,
-) -> Result<(), Memory>
-    ensures { OnOk result (recordings.new ≡ put recording_less row recordings.old) }
+fn put_in<R: Numbered + Drop>(alloc: Global, rows: &mut Rows<R>, row: R) -> Result<(), Memory>
+    ensures { OnOk result (rows.new ≡ put (λ a b. nat_lt (R.number a) (R.number b)) row rows.old) }
 {
-    let mut rows = mem::replace(recordings, Rows::of(Vec::new(alloc))).into_vec();
-    rows.reserve(1)?;
-    put_row(&mut rows, row);
-    *recordings = Rows::of(rows);
+    let mut items = mem::replace(rows, Rows::of(Vec::new(alloc))).into_vec();
+    items.reserve(1)?;
+    put_row(&mut items, row);
+    *rows = Rows::of(items);
     Ok(())
 }

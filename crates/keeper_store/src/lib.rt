@@ -6,6 +6,7 @@
 #![tactic(auto)]
 
 mod contents;
+mod energy_bytes;
 mod keepers;
 mod places;
 mod row_types;
@@ -14,7 +15,8 @@ mod tests;
 mod vaults;
 
 pub use contents::{Batch, Change, Changes, Tables};
+pub use energy_bytes::{RowFault, bytes_of, energies_of};
 pub use keepers::{Keeper, MemKeeper};
-pub use places::put_row;
+pub use places::{Numbered, put_row};
 pub use row_types::{AlbumRow, RecordingRow, ReplyRow, Rows, SegmentRow};
 pub use vaults::{MemVault, Vault};

@@ -1,8 +1,9 @@
 //! The objects in memory, called in turn.
 use crate::{
-    Batch, Change, Changes, Keeper, MemKeeper, MemVault, RecordingRow, Tables, Vault, put_row,
+    Batch, Change, Changes, Keeper, MemKeeper, MemVault, RecordingRow, RowFault, SegmentRow,
+    Tables, Vault, bytes_of, energies_of, put_row,
 };
-use lib_base::{Kind, Memory, Outside, Summary, Text};
+use lib_base::{Bytes, Kind, Memory, Outside, Summary, Text};
 use std::alloc::Global;
 use std::test::Fail;
 
@@ -44,6 +45,11 @@ fn batch(alloc: Global, last_take: u32) -> Result<Batch, Memory> {
     Ok(Batch {
         changes: Changes::of(changes),
     })
+}
+
+fn segments(alloc: Global, take: u32, byte: u8) -> Result<SegmentRow, Memory> {
+    let energies = Bytes::copy(alloc, &[byte])?;
+    Ok(SegmentRow { take, energies })
 }
 
 fn ids_and_takes(alloc: Global, rows: &[RecordingRow]) -> Result<Vec<(u32, u32)>, Memory> {
@@ -122,4 +128,55 @@ fn rows_go_to_their_places(rt: HostRuntime) -> Result<(), Fail> {
         [(1, 5), (3, 2), (5, 4), (9, 3)].as_slice()
     );
     Ok(())
+}
+
+// A later row of a take replaces the one before.
+#[test]
+fn keeper_puts_segments_by_take(rt: HostRuntime) -> Result<(), Fail> {
+    let alloc = rt.alloc();
+    let mut changes = Vec::new(alloc);
+    for (take, byte) in [(2, 1), (1, 2), (2, 3)] {
+        changes.push(Change::PutSegments(segments(alloc, take, byte)?))?;
+    }
+    let mut keeper = MemKeeper::new(alloc, Tables::empty(alloc), Vec::new(alloc));
+    let batch = Batch {
+        changes: Changes::of(changes),
+    };
+    assert_eq!(rt; keeper.apply(&batch), Ok(()));
+    let tables = keeper.load()?;
+    let rows = tables.segments.as_slice();
+    assert_eq!(rt; rows.len(), 2);
+    for (row, (take, byte)) in rows.iter().zip([(1, 2), (2, 3)]) {
+        assert_eq!(rt; row.take, take);
+        assert_eq!(rt; row.energies.as_slice(), [byte].as_slice());
+    }
+    Ok(())
+}
+
+/// The bytes of the greatest energy, 0x2aa08 * 2^64, and then of 258.
+const ROW: [u8; 22] = *b"\x02\xaa\x08\0\0\0\0\0\0\0\0\0\0\0\0\0\0\0\0\0\x01\x02";
+
+#[test]
+fn energies_are_written_and_read(rt: HostRuntime) -> Result<(), Fail> {
+    let alloc = rt.alloc();
+    let energies = [0x2aa08 << 64, 258];
+    let bytes = bytes_of(alloc, &energies)?;
+    assert_eq!(rt; bytes.as_slice(), ROW.as_slice());
+    let read = energies_of(alloc, bytes.as_slice())?;
+    assert_eq!(rt; read.as_slice(), energies.as_slice());
+    Ok(())
+}
+
+#[test]
+fn other_bytes_are_no_energies(rt: HostRuntime) {
+    let alloc = rt.alloc();
+    let mut over = ROW;
+    over[10] = 1;
+    for (bytes, fault) in [
+        (&ROW[..21], RowFault::Length),
+        (&ROW[..1], RowFault::Length),
+        (over.as_slice(), RowFault::TooGreat),
+    ] {
+        assert_eq!(rt; energies_of(alloc, bytes).err(), Some(fault));
+    }
 }

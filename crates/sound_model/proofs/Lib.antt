@@ -1,3 +1,4 @@
+mod GateRows
 pub mod LevelLaws
 pub mod LevelTable
 pub mod RangeLaws

@@ -1,0 +1,51 @@
+//! Loudness of blocks and windows.
+ghost use Rattle.std.specs.Prelude.{◌≤◌, ◌<◌, ◌*◌, unsigned_abs, IfSome};
+ghost use Rattle.sound_model.specs.Loudness.{IsLoudness, IfThere, IsBlockLevel, IsWindowLevel, above_zero};
+ghost use Rattle.sound_model.specs.Segments.{greatest_energy};
+ghost use Rattle.gate_blocks.specs.Bounds.{AreBlocks};
+
+use crate::gates::{FULL_POWER, gated_power};
+use db_table::{hundredths, level};
+
+/// The loudness of blocks, in hundredths of LUFS: that of the mean of those that pass both gates,
+/// absent exactly where none does. It takes no memory.
+pub fn loudness(blocks: &[u128]) -> Option<i32>
+    requires { AreBlocks blocks.now }
+    ensures value { IsLoudness blocks.now result }
+    ensures small { IfSome result (λ v. unsigned_abs v ≤ 28000) }
+{
+    gated_power(blocks).map(level_of_block)
+}
+
+/// The loudness of one block's energy, in hundredths of LUFS, absent exactly where the energy is 0.
+pub fn block_level(energy: u128) -> Option<i32>
+    requires { energy ≤ 4 * greatest_energy }
+    ensures value { IfThere IsBlockLevel (above_zero energy) result }
+    ensures small { IfSome result (λ v. unsigned_abs v ≤ 28000) }
+{
+    if energy == 0 {
+        return None;
+    }
+    Some(level_of_block(energy))
+}
+
+/// The loudness of one window's energy, in hundredths of LUFS, absent exactly where the energy is 0.
+pub fn window_level(energy: u128) -> Option<i32>
+    requires { energy ≤ 30 * greatest_energy }
+    ensures value { IfThere IsWindowLevel (above_zero energy) result }
+    ensures small { IfSome result (λ v. unsigned_abs v ≤ 28000) }
+{
+    if energy == 0 {
+        return None;
+    }
+    Some(hundredths(level(25 * energy, 36 * FULL_POWER)))
+}
+
+fn level_of_block(energy: u128) -> i32
+    requires some { 0 < energy }
+    requires within { energy ≤ 4 * greatest_energy }
+    ensures value { IsBlockLevel energy result }
+    ensures small { unsigned_abs result ≤ 28000 }
+{
+    hundredths(level(125 * energy, 24 * FULL_POWER))
+}

@@ -1,0 +1,134 @@
+//! Meters of segments.
+ghost use Rattle.std.specs.Prelude.{◌≡◌, ◌≤◌, ◌<◌, ◌+◌, ◌*◌, ◌%◌, ◌^◌, ℤ, List, [], ◌∷◌, ◌++◌, length, sum_by, IfOk, All, vec_len, vec_capacity};
+ghost use Rattle.gate_blocks.specs.Bounds.{AreOfChannel, IsWeighted};
+ghost use Rattle.sound_model.specs.Segments.{segments_of, square};
+
+use lib_base::Memory;
+use std::alloc::Global;
+use std::marker::Model;
+
+/// How many samples a segment has: 0.1 s at 48,000 Hz (BS.1770-4 Annex 1).
+const SEGMENT: usize = 4800;
+
+/// Sums the squares of weighted samples of one channel, over each whole segment of 4,800.
+#[derive(Debug, Drop)]
+pub struct SegmentMeter {
+    energies: Vec<u128>,
+    after: u128,
+    taken: usize,
+    frames: u64,
+}
+
+impl Model for SegmentMeter {
+    ghost use Rattle.std.specs.Prelude.{◌≡◌, ◌≤◌, ◌<◌, ◌+◌, ◌*◌, ◌/◌, ◌^◌, length, vec_capacity};
+    ghost use Rattle.gate_blocks.specs.Bounds.{AreOfChannel};
+    ghost use Rattle.gate_blocks.specs.Meters.{Meter};
+
+    ghost Value = { Meter };
+
+    ghost view = { λ m. record {
+      frames = m.frames;
+      count = 4800 * length m.energies.items + m.taken;
+      energies = m.energies.items;
+      after = m.after;
+    } };
+
+    ghost invariant = { λ m. (m.frames / 4800 ≤ vec_capacity m.energies)
+        × (4800 * length m.energies.items + m.taken ≤ m.frames)
+        × (m.taken < 4800) × (m.after ≤ m.taken * 2 ^ 60) × AreOfChannel m.energies.items };
+}
+
+impl SegmentMeter {
+    ghost use Rattle.gate_blocks.specs.Meters.{Meter, WasFed};
+
+    /// A meter that was fed nothing, with room for the segments of so many frames.
+    pub fn new(alloc: Global, frames: u64) -> Result<SegmentMeter, Memory>
+        ensures fed { IfOk result (λ meter. WasFed meter []) }
+        ensures frames { IfOk result (λ meter. meter.frames ≡ frames) }
+    {
+        let energies = Vec::with_capacity(alloc, frames as usize / SEGMENT)?;
+        Ok(SegmentMeter {
+            energies,
+            after: 0,
+            taken: 0,
+            frames,
+        })
+    }
+
+    /// Takes further samples. It takes no memory.
+    pub fn feed(&mut self, filtered: &[i32])
+        requires room { self.old.count + length filtered.now ≤ self.old.frames }
+        requires within { All IsWeighted filtered.now }
+        ensures fed { (xs : List ℤ) → WasFed self.old xs → WasFed self.new (xs ++ filtered.now) }
+        ensures count { self.new.count ≡ self.old.count + length filtered.now }
+        ensures frames { self.new.frames ≡ self.old.frames }
+    {
+        let mut rest = filtered;
+        while !rest.is_empty() {
+            let count = rest.len().min(SEGMENT - self.taken);
+            let (piece, later) = rest.split_at(count);
+            self.take_piece(piece);
+            rest = later;
+        }
+    }
+
+    /// Takes samples that lie in one segment.
+    fn take_piece(&mut self, piece: &[i32])
+        requires room { self.old.count + length piece.now ≤ self.old.frames }
+        requires one_segment { self.old.count % 4800 + length piece.now ≤ 4800 }
+        requires within { All IsWeighted piece.now }
+        ensures fed { (xs : List ℤ) → WasFed self.old xs → WasFed self.new (xs ++ piece.now) }
+        ensures count { self.new.count ≡ self.old.count + length piece.now }
+        ensures frames { self.new.frames ≡ self.old.frames }
+    {
+        self.after += squares_of(piece);
+        self.taken += piece.len();
+        if self.taken == SEGMENT {
+            append(&mut self.energies, self.after);
+            self.after = 0;
+            self.taken = 0;
+        }
+    }
+
+    /// The energies of the whole segments that were fed so far, one for each.
+    pub fn energies(&self) -> &[u128]
+        ensures energies { (xs : List ℤ) → WasFed self.now xs → result.now ≡ segments_of xs }
+        ensures within { AreOfChannel result.now }
+    {
+        self.energies.as_slice()
+    }
+}
+
+/// Appends an energy for which there is room.
+fn append(energies: &mut Vec<u128>, energy: u128)
+    requires { vec_len energies.old < vec_capacity energies.old }
+    ensures items { energies.new.items ≡ energies.old.items ++ energy ∷ [] }
+    ensures capacity { vec_capacity energies.old ≤ vec_capacity energies.new }
+{
+    if energies.push(energy).is_err() {
+        unreachable!()
+    }
+}
+
+/// The sum of the squares of samples of at most one segment.
+fn squares_of(piece: &[i32]) -> u128
+    requires few { length piece.now ≤ 4800 }
+    requires within { All IsWeighted piece.now }
+    ensures value { result ≡ sum_by square piece.now }
+    ensures bound { result ≤ length piece.now * 2 ^ 60 }
+{
+    let mut sum = 0;
+    for sample in piece {
+        sum += u128::from(squared(*sample));
+    }
+    sum
+}
+
+fn squared(sample: i32) -> u64
+    requires { IsWeighted sample }
+    ensures value { result ≡ square sample }
+    ensures bound { result ≤ 2 ^ 60 }
+{
+    let size = u64::from(sample.unsigned_abs());
+    size * size
+}
