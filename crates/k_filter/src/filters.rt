@@ -26,7 +26,7 @@ impl Filter {
         requires { rate ≡ 48000 }
         ensures { (depth : ℕ) → WasFed result depth [] }
     {
-        let _ = rate;
+        prove!(rate == 48_000);
         let silence = Recent { last: 0, before: 0 };
         Filter {
             inputs: silence,

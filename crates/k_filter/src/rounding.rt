@@ -35,9 +35,9 @@ pub fn difference(a: i128, b: i128) -> i128
 
 /// The sum in whole units, rounded down.
 ///
-/// A division of 128 bits takes several times as long as all else in a section, so the sum's upper
-/// part is multiplied by a reciprocal, and the remainder tells whether that was right. About once in
-/// two thousand sums it is one too low, and only then the sum is divided.
+/// A division of 128 bits takes several times as long as all else in a section. So the sum's upper part
+/// is multiplied by a reciprocal, and the remainder tells whether that was right. Once in some six
+/// thousand sums it is one too low, and only then the sum is divided.
 #[inline(always)]
 pub fn whole_units(sum: i128) -> i64
     requires { unsigned_abs sum < 2 ^ 98 }

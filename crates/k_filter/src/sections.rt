@@ -1,6 +1,5 @@
 //! The next output of each of the two sections.
 ghost use Rattle.std.specs.Prelude.{◌≡◌, ◌≤◌, ◌<◌, ◌^◌, ◌*◌, ℤ, pos, neg_ℤ, ◌*ℤ◌, ◌+ℤ◌, ◌-ℤ◌, unsigned_abs};
-ghost use Rattle.std.specs.Int.{int_div_euclid};
 ghost use Rattle.sound_model.specs.Weighted.{next_output, shelf, high_pass};
 
 use crate::rounding::{difference, held_output, product, sum, whole_units};
@@ -34,7 +33,8 @@ pub fn shelf_output(input: i64, inputs: Recent, outputs: Recent) -> i64
     requires input_before { unsigned_abs inputs.before ≤ 2 ^ 39 }
     requires last_output { unsigned_abs outputs.last ≤ 2 ^ 50 }
     requires output_before { unsigned_abs outputs.before ≤ 2 ^ 50 }
-    ensures value { result ≡ next_output shelf input inputs.last inputs.before outputs.last outputs.before }
+    ensures value { result
+        ≡ next_output shelf input inputs.last inputs.before outputs.last outputs.before }
     ensures small { unsigned_abs result ≤ 2 ^ 50 }
 {
     held_output(whole_units(shelf_sum(input, inputs, outputs)))
@@ -51,7 +51,8 @@ pub fn high_pass_output(input: i64, inputs: Recent, outputs: Recent) -> i64
     requires input_before { unsigned_abs inputs.before ≤ 2 ^ 50 }
     requires last_output { unsigned_abs outputs.last ≤ 2 ^ 50 }
     requires output_before { unsigned_abs outputs.before ≤ 2 ^ 50 }
-    ensures value { result ≡ next_output high_pass input inputs.last inputs.before outputs.last outputs.before }
+    ensures value { result
+        ≡ next_output high_pass input inputs.last inputs.before outputs.last outputs.before }
     ensures small { unsigned_abs result ≤ 2 ^ 50 }
 {
     let whole = high_pass_whole(input, inputs, outputs);
@@ -66,7 +67,8 @@ fn high_pass_whole(input: i64, inputs: Recent, outputs: Recent) -> i64
     requires input_before { unsigned_abs inputs.before ≤ 2 ^ 50 }
     requires last_output { unsigned_abs outputs.last ≤ 2 ^ 50 }
     requires output_before { unsigned_abs outputs.before ≤ 2 ^ 50 }
-    ensures value { result ≡ ((input -ℤ inputs.last) -ℤ (inputs.last -ℤ inputs.before)) +ℤ (outputs.last +ℤ (outputs.last -ℤ outputs.before)) }
+    ensures value { result ≡ ((input -ℤ inputs.last) -ℤ (inputs.last -ℤ inputs.before))
+        +ℤ (outputs.last +ℤ (outputs.last -ℤ outputs.before)) }
     ensures small { unsigned_abs result ≤ 7 * 2 ^ 50 }
 {
     added(curve(input, inputs), straight(outputs))
@@ -121,7 +123,8 @@ fn change(new: i64, old: i64) -> i64
 fn high_pass_rest(outputs: Recent) -> i128
     requires last_output { unsigned_abs outputs.last ≤ 2 ^ 50 }
     requires output_before { unsigned_abs outputs.before ≤ 2 ^ 50 }
-    ensures value { result ≡ (neg_ℤ (pos 995254516602) *ℤ outputs.last) +ℤ ((pos 992774963379 *ℤ outputs.before) +ℤ pos (5 * 10 ^ 13)) }
+    ensures value { result ≡ (neg_ℤ (pos 995254516602) *ℤ outputs.last)
+        +ℤ ((pos 992774963379 *ℤ outputs.before) +ℤ pos (5 * 10 ^ 13)) }
     ensures small { unsigned_abs result < 2 ^ 98 }
 {
     let before = sum(product(992_774_963_379, outputs.before), 50_000_000_000_000);
@@ -129,6 +132,8 @@ fn high_pass_rest(outputs: Recent) -> i128
 }
 
 /// The five products of the first section, with half a unit.
+///
+/// What comes of the last output is added last, since the next sample waits for it.
 #[inline(always)]
 fn shelf_sum(input: i64, inputs: Recent, outputs: Recent) -> i128
     requires input { unsigned_abs input ≤ 2 ^ 39 }
@@ -136,13 +141,16 @@ fn shelf_sum(input: i64, inputs: Recent, outputs: Recent) -> i128
     requires input_before { unsigned_abs inputs.before ≤ 2 ^ 39 }
     requires last_output { unsigned_abs outputs.last ≤ 2 ^ 50 }
     requires output_before { unsigned_abs outputs.before ≤ 2 ^ 50 }
-    ensures value { result ≡ (shelf.b0 *ℤ input) +ℤ (shelf.b1 *ℤ inputs.last) +ℤ (shelf.b2 *ℤ inputs.before) +ℤ (neg_ℤ shelf.a2 *ℤ outputs.before +ℤ pos (5 * 10 ^ 13)) +ℤ (neg_ℤ shelf.a1 *ℤ outputs.last) }
+    ensures value { result
+        ≡ (shelf.b0 *ℤ input) +ℤ (shelf.b1 *ℤ inputs.last) +ℤ (shelf.b2 *ℤ inputs.before)
+        +ℤ (neg_ℤ shelf.a2 *ℤ outputs.before +ℤ pos (5 * 10 ^ 13)) +ℤ (neg_ℤ shelf.a1 *ℤ outputs.last) }
     ensures small { unsigned_abs result < 2 ^ 98 }
 {
     let early = sum(shelf_forward(input, inputs), shelf_before(outputs.before));
     sum(early, shelf_last(outputs.last))
 }
 
+/// What the last output adds.
 #[inline(always)]
 fn shelf_last(output: i64) -> i128
     requires { unsigned_abs output ≤ 2 ^ 50 }
@@ -152,6 +160,7 @@ fn shelf_last(output: i64) -> i128
     product(169_065_929_318_241, output)
 }
 
+/// What the output before it adds, with half a unit.
 #[inline(always)]
 fn shelf_before(output: i64) -> i128
     requires { unsigned_abs output ≤ 2 ^ 50 }
@@ -161,12 +170,14 @@ fn shelf_before(output: i64) -> i128
     sum(product(-73_248_077_421_585, output), 50_000_000_000_000)
 }
 
+/// What the three inputs add.
 #[inline(always)]
 fn shelf_forward(input: i64, inputs: Recent) -> i128
     requires input { unsigned_abs input ≤ 2 ^ 39 }
     requires last_input { unsigned_abs inputs.last ≤ 2 ^ 39 }
     requires input_before { unsigned_abs inputs.before ≤ 2 ^ 39 }
-    ensures value { result ≡ (shelf.b0 *ℤ input) +ℤ (shelf.b1 *ℤ inputs.last) +ℤ (shelf.b2 *ℤ inputs.before) }
+    ensures value { result
+        ≡ (shelf.b0 *ℤ input) +ℤ (shelf.b1 *ℤ inputs.last) +ℤ (shelf.b2 *ℤ inputs.before) }
     ensures small { unsigned_abs result < 2 ^ 89 }
 {
     let newest = product(153_512_485_958_697, input);
