@@ -1,1 +1,2 @@
+pub mod PeakRows
 pub mod WeightedRows
