@@ -14,6 +14,7 @@ trap 'rm -rf "$work"' EXIT
 proved=crates/bench_meters/out/bench_meters
 gcc -O2 -DFAST -o "$work/filter_fast" bench/filter.c
 gcc -O2 -o "$work/filter_plain" bench/filter.c
+gcc -O2 -o "$work/peak" bench/peak.c
 
 # seconds of processor time, and what the program printed in the file `sum`
 timed() {
@@ -43,3 +44,4 @@ compare() {
 
 compare filter 1000 "$work/filter_fast" "C with the same floor division"
 compare filter 200 "$work/filter_plain" "C with the division of 128 bits"
+compare peak 200 "$work/peak" "C"

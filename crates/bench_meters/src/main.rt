@@ -1,7 +1,7 @@
-//! Filters a second of generated samples over and over, for `bench/run.sh` to time.
+//! Meters a second of generated samples over and over, for `bench/run.sh` to time.
 //!
-//! The words are the meter and how many rounds to make. The last line is a checksum of the last
-//! round, which a plain C program of the same definition prints too.
+//! The words are the meter and how many rounds to make. It prints what a plain C program of the same
+//! definition prints too: of the filter a checksum of the last round, of the peak the peak.
 #![tactic(auto)]
 
 ghost use Rattle.std.specs.Prelude.{◌≡◌, ◌≤◌, length, IfOk, All, vec_len};
@@ -11,6 +11,7 @@ use anyhow::{Result, bail};
 use k_filter::Filter;
 use std::alloc::{AllocError, Global};
 use std::env;
+use true_peak::PeakMeter;
 
 /// How many samples a round has.
 const ROUND: usize = 48_000;
@@ -25,6 +26,7 @@ fn main(rt: HostRuntime) -> Result<()> {
     let samples = noise(alloc, ROUND)?;
     let checksum = match meter.as_str() {
         "filter" => filtered(alloc, samples.as_slice(), rounds)?,
+        "peak" => peak_of_rounds(samples.as_slice(), rounds),
         _ => bail!("no such meter"),
     };
     println!(rt; "{checksum}")?;
@@ -60,6 +62,17 @@ fn filtered(alloc: Global, samples: &[i32], rounds: u32) -> Result<u64, AllocErr
         filter.feed(samples, 16, out.as_mut_slice());
     }
     Ok(checksum(out.as_slice()))
+}
+
+/// The peak of the samples so many times over.
+fn peak_of_rounds(samples: &[i32], rounds: u32) -> u64
+    requires { All (IsSample 16) samples.now }
+{
+    let mut meter = PeakMeter::new();
+    for _ in 0..rounds {
+        meter.feed(samples, 16);
+    }
+    meter.finish()
 }
 
 fn checksum(values: &[i32]) -> u64 {
