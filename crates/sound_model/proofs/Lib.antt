@@ -1,7 +1,9 @@
 mod GateRows
 pub mod LevelLaws
 pub mod LevelTable
+pub mod PeakRows
 pub mod RangeLaws
+pub mod WeightedRows
 mod WorkedLevels
 mod WorkedRanges
 mod WorkedTexts

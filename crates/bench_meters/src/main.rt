@@ -1,0 +1,83 @@
+//! Meters a second of generated samples over and over, for `bench/run.sh` to time.
+//!
+//! The words are the meter and how many rounds to make. It prints what a plain C program of the same
+//! definition prints too: of the filter a checksum of the last round, of the peak the peak.
+#![tactic(auto)]
+
+ghost use Rattle.std.specs.Prelude.{◌≡◌, ◌≤◌, length, IfOk, All, vec_len};
+ghost use Rattle.lib_base.specs.Sounds.{IsSample};
+
+use anyhow::{Result, bail};
+use k_filter::Filter;
+use std::alloc::{AllocError, Global};
+use std::env;
+use true_peak::PeakMeter;
+
+/// How many samples a round has.
+const ROUND: usize = 48_000;
+
+fn main(rt: HostRuntime) -> Result<()> {
+    let alloc = rt.alloc();
+    let words: Vec<String> = env::args(&rt)?.skip(1).collect(alloc)?;
+    let [meter, rounds] = words.as_slice() else {
+        bail!("usage: bench_meters METER ROUNDS");
+    };
+    let rounds: u32 = rounds.as_str().parse()?;
+    let samples = noise(alloc, ROUND)?;
+    let checksum = match meter.as_str() {
+        "filter" => filtered(alloc, samples.as_slice(), rounds)?,
+        "peak" => peak_of_rounds(samples.as_slice(), rounds),
+        _ => bail!("no such meter"),
+    };
+    println!(rt; "{checksum}")?;
+    Ok(())
+}
+
+/// Noise of 16 bits, by the linear congruential generator of Numerical Recipes.
+fn noise(alloc: Global, count: usize) -> Result<Vec<i32>, AllocError>
+    ensures { IfOk result (λ v. All (IsSample 16) v.items) }
+{
+    let mut samples = Vec::new(alloc);
+    let mut state = 1u32;
+    'samples: for _ in 0..count {
+        state = state.wrapping_mul(1_664_525).wrapping_add(1_013_904_223);
+        samples.push(upper_half(state))?;
+    }
+    Ok(samples)
+}
+
+fn upper_half(state: u32) -> i32
+    ensures { IsSample 16 result }
+{
+    (state >> 16) as i32 - 32_768
+}
+
+/// Feeds the samples to one filter so many times over.
+fn filtered(alloc: Global, samples: &[i32], rounds: u32) -> Result<u64, AllocError>
+    requires { All (IsSample 16) samples.now }
+{
+    let mut filter = Filter::new(48_000);
+    let mut out = vec![in alloc; 0; samples.len()]?;
+    for _ in 0..rounds {
+        filter.feed(samples, 16, out.as_mut_slice());
+    }
+    Ok(checksum(out.as_slice()))
+}
+
+/// The peak of the samples so many times over.
+fn peak_of_rounds(samples: &[i32], rounds: u32) -> u64
+    requires { All (IsSample 16) samples.now }
+{
+    let mut meter = PeakMeter::new();
+    for _ in 0..rounds {
+        meter.feed(samples, 16);
+    }
+    meter.finish()
+}
+
+fn checksum(values: &[i32]) -> u64 {
+    values.iter().fold(0u64, |sum, value| {
+        let bits = u32::from_le_bytes(value.to_le_bytes());
+        sum.wrapping_mul(31).wrapping_add(u64::from(bits))
+    })
+}

@@ -1,0 +1,3 @@
+pub mod Bounds
+pub mod Fed
+pub use Rattle.sound_model.specs.Weighted

@@ -1,0 +1,6 @@
+pub mod Dots
+pub mod Hearing
+pub mod Places
+pub mod Scales
+pub mod Shifts
+pub mod Sizes

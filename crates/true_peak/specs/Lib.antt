@@ -1,0 +1,3 @@
+pub mod Windows
+pub mod Heard
+pub use Rattle.sound_model.specs.Peaks

@@ -1,0 +1,105 @@
+//! A run over places, which keeps the greatest size so far.
+ghost use Rattle.std.specs.Prelude.{◌≡◌, ◌≤◌, ◌<◌, ◌+◌, ◌-◌, ◌^◌, ℕ, ℤ, pos, List, length, All, unsigned_abs};
+ghost use Rattle.lib_base.specs.Sounds.{IsSample, part};
+ghost use Rattle.sound_model.specs.Peaks.{scaled, sample_before};
+ghost use Rattle.true_peak.specs.Windows.{history_at};
+
+use crate::history::History;
+
+/// A run over places.
+#[derive(Clone, Copy, Debug)]
+pub struct Run {
+    pub history: History,
+    pub greatest: u64,
+}
+
+impl Run {
+    ghost use Rattle.true_peak.specs.Heard.{Heard};
+
+    /// A run over no place so far, from the first one on.
+    pub fn new() -> Run
+        ensures { (depth : ℕ) (samples : List ℤ) → Heard result depth samples 0 0 }
+    {
+        Run {
+            history: History::silent(),
+            greatest: 0,
+        }
+    }
+
+    /// A run over no place so far, from the place behind this history on.
+    pub fn behind(history: History) -> Run
+        ensures { (depth : ℕ) (samples : List ℤ) (place : ℕ)
+            → history.before ≡ history_at depth samples place
+            → Heard result depth samples place place }
+    {
+        Run {
+            history,
+            greatest: 0,
+        }
+    }
+
+    /// The run over one more place, at which this scaled sample is.
+    #[inline(always)]
+    pub fn over(self, value: i64) -> Run
+        requires { unsigned_abs value ≤ 2 ^ 23 }
+        ensures { (depth : ℕ) (samples : List ℤ) (first place : ℕ) → first ≤ place
+            → value ≡ sample_before depth samples place 0
+            → Heard self depth samples first place → Heard result depth samples first (place + 1) }
+    {
+        Run {
+            history: self.history.after(value),
+            greatest: self.greatest.max(self.history.size(value)),
+        }
+    }
+
+    /// The run over the places of these samples of `depth` bits.
+    pub fn over_samples(self, samples: &[i32], depth: u32) -> Run
+        requires low { 4 ≤ depth }
+        requires high { depth ≤ 24 }
+        requires within { All (IsSample depth) samples.now }
+        ensures { (all : List ℤ) (first place : ℕ) → first ≤ place
+            → samples.now ≡ part all place (length samples.now)
+            → Heard self depth all first place
+            → Heard result depth all first (place + length samples.now) }
+    {
+        let mut run = self;
+        for i in 0..samples.len() {
+            run = run.over(scaled_value(samples[i], depth));
+        }
+        run
+    }
+
+    /// The run over so many places past the end.
+    pub fn over_silence(self, count: u64) -> Run
+        ensures { (depth : ℕ) (all : List ℤ) (first place : ℕ) → first ≤ place
+            → (0 < count → length all ≤ place)
+            → Heard self depth all first place → Heard result depth all first (place + count) }
+    {
+        let mut run = self;
+        for _i in 0..count {
+            run = run.over(0);
+        }
+        run
+    }
+}
+
+/// A sample, scaled to 24 bits.
+#[inline(always)]
+fn scaled_value(sample: i32, depth: u32) -> i64
+    requires low { 4 ≤ depth }
+    requires high { depth ≤ 24 }
+    requires within { IsSample depth sample }
+    ensures value { result ≡ scaled depth sample }
+    ensures small { unsigned_abs result ≤ 2 ^ 23 }
+{
+    i64::from(sample) * scale(depth)
+}
+
+#[inline(always)]
+fn scale(depth: u32) -> i64
+    requires low { 4 ≤ depth }
+    requires high { depth ≤ 24 }
+    ensures { result ≡ pos (2 ^ (24 - depth)) }
+{
+    (1u64 << (24 - depth)) as i64
+}
