@@ -1,5 +1,5 @@
 -- What parsing a text says of the number that it writes.
-use Rattle.std.proofs.Common.{◌≡◌, ◌≢◌, ◌<◌, ℕ, zero, suc, true, Option, List, [], ◌∷◌, Result, Ok, Err, IfSome, IfNone, get_or, sym, subst, arith}
+use Rattle.std.proofs.Common.{◌≡◌, ◌≢◌, ℕ, zero, suc, true, Option, List, [], ◌∷◌, Result, Ok, Err, IfSome, IfNone, get_or, sym, subst, arith}
 use Rattle.std.proofs.lemmas.Str.{IsUtf8-from_ascii}
 use Rattle.std.proofs.lemmas.Str.Parse.{IsNumeralModel, numerals_by_value, tells_all_ascii_digits, parse_plain}
 use Rattle.std.specs.Result.{result_ok}

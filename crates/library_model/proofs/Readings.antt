@@ -1,17 +1,19 @@
 -- Bytes are read in one way alone: what begins with a request begins with that one, whatever follows.
-use Rattle.std.proofs.Common.{◌≡◌, ℕ, ◌+◌, ◌<◌, inl, inr, Some, List, [], ◌∷◌, ◌++◌, length, take, drop, codes, refl, sym, ap, ◌∙◌, subst, arith, append_assoc, length-append}
+use Rattle.std.proofs.Common.{◌≡◌, ℕ, ◌+◌, ◌<◌, ℤ, false, ◌||◌, nat_le, if◌then◌else◌, inl, inr, Some, List, [], ◌∷◌, ◌++◌, length, take, drop, codes, refl, sym, ap, ◌∙◌, subst, arith, append_assoc, length-append}
 use Rattle.std.proofs.Math.Seq.{take-append_seam, drop-append_seam}
 use Rattle.httparse.specs.Grammar.{RequestHead, ReadsRequest, print_request, print_blank, print_version, print_end, print_section}
 use Rattle.httparse.proofs.GrammarLemmas.{request_unique, ReadsRequest-append}
-use Rattle.file_model.specs.Reading.{Reading, Reads}
+use Rattle.file_model.specs.Reading.{Reading, Reads, accepted}
+use Rattle.file_model.proofs.Readings.{Reads_unique}
 use Rattle.library_model.specs.declared.messages.Command.{Command}
 use Rattle.library_model.specs.declared.messages.Command.TheVariants.{Import}
 use Rattle.library_model.specs.declared.messages.Request.{Request}
 use Rattle.library_model.specs.declared.messages.Question.TheVariants as about
 use Rattle.library_model.specs.Asked.{Asked, change, question}
 use Rattle.library_model.specs.Framing.{BeginsImport, BeginsQuestion, id_asked, Begins, BeginWith, EndsAs, End, ended, unframeable, RequestsOf, body_length}
-use Rattle.library_model.specs.Machine.{Decides, DecidesCommand, Verdict, import_verdict}
-use Rattle.library_model.specs.State.{State}
+use Rattle.library_model.specs.Machine.{Decides, DecidesCommand, Verdict, stays, accepts, verdict_reply, import_verdict, recording_reply, new_recording, imported}
+use Rattle.library_model.specs.Replies.{ids_refusal}
+use Rattle.library_model.specs.State.{State, numbers_end}
 
 -- Lists with equally long fronts are equal only where their fronts and their rests are.
 pub append-split : (a b r t : List ℕ) → length a ≡ length b → a ++ r ≡ b ++ t → (a ≡ b) × (r ≡ t)
@@ -166,3 +168,14 @@ pub Decides-unique : ((b : List ℕ) (r q : Reading) → Reads b r → Reads b q
     → (s : State) (q : Asked) (v w : Verdict) → Decides s q v → Decides s q w → v ≡ w
 Decides-unique unique s (change q) v w x y = DecidesCommand-unique unique s q.command v w x y
 Decides-unique unique s (question q) v w x y = x ∙ sym y
+
+-- The import of an accepted file for which numbers are left is granted: its verdict replies 201.
+pub import_granted : (s : State) (file : List ℕ) (samples : List ℤ) (request : Request) (verdict : Verdict)
+    → request.command ≡ Import file → Reads file (accepted samples)
+    → (nat_le numbers_end s.next_recording || nat_le numbers_end s.next_take) ≡ false
+    → Decides s (change request) verdict → (verdict_reply verdict).status ≡ 201
+import_granted s file samples request verdict is reads left decides =
+    let command = subst (λ (c : Command). DecidesCommand s c verdict) is decides in
+    let granted = command.2 ∙ ap (import_verdict s file) (Reads_unique file command.0 (accepted samples) command.1 reads)
+    ∙ ap (λ b. if b then stays ids_refusal else accepts (recording_reply 201 (new_recording s file samples)) (imported s file samples)) left in
+    ap (λ (v : Verdict). (verdict_reply v).status) granted

@@ -1,5 +1,3 @@
-use Rattle.std.proofs.Common.{ℕ, List}
-use Rattle.std.specs.Str.Parse.{ParsesUnsigned}
 use Rattle.library_http.proofs.NumberLemmas.{parsed, not_a_number}
 use Rattle.library_http.proofs.framing.number_written.Goals as goal
 

@@ -1,10 +1,9 @@
-use Rattle.std.proofs.Common.{◌≡◌, refl, sym, subst}
+use Rattle.std.proofs.Common.{refl}
 use Rattle.std.specs.Prelude.{slice_range}
 use Rattle.library_model.specs.declared.messages.Command.TheVariants.{Import}
 use Rattle.library_model.specs.declared.messages.Request.{Request}
-use Rattle.library_model.specs.Asked.{Asked, change, question}
-use Rattle.library_http.specs.Framed.{HasRequest}
-use Rattle.library_http.specs.World.{World, world}
+use Rattle.library_model.specs.Asked.{change, question}
+use Rattle.library_http.specs.World.{world}
 use Rattle.library_http.proofs.ServingLemmas.{Turns-written, GoesOn-written}
 use Rattle.library_http.proofs.serving.serve_next.Goals as goal
 
