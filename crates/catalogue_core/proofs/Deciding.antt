@@ -8,7 +8,7 @@ use Rattle.file_model.specs.Reading.{Reads, accepted, broken}
 use Rattle.library_model.specs.declared.messages.Command.TheVariants.{Import}
 use Rattle.library_model.specs.declared.messages.Reply.{Reply}
 use Rattle.library_model.specs.declared.messages.Request.{Request}
-use Rattle.library_model.specs.Machine.{recording_reply, new_recording, imported, import_verdict, refuses, accepts, as_decided, vault_failed}
+use Rattle.library_model.specs.Machine.{recording_reply, new_recording, imported, import_verdict, stays, accepts, as_decided, vault_failed}
 use Rattle.library_model.specs.Replies.{format_refusal, ids_refusal, vault_refusal}
 use Rattle.library_model.specs.Stands.{tables_of}
 use Rattle.library_model.specs.State.{State, IsValid, numbers_end}
@@ -36,7 +36,7 @@ RefusesBy-broken s file rule place reply before now reads is =
     let status : reply.status ≡ 422 = ap (λ (r : Reply). r.status) is in
     record {
       answers = record {
-        way = as_decided (refuses (format_refusal rule place));
+        way = as_decided (stays (format_refusal rule place));
         answers = ((broken rule place, reads, refl), is, refl);
       };
       vault = λ e. absurd (other_status reply 422 502 status (omega arith) e);
@@ -47,9 +47,9 @@ RefusesBy-broken s file rule place reply before now reads is =
 -- with no number left the import is refused, and else it is accepted
 import_verdict-lacks : (s : State) (file : List ℕ) (samples : List ℤ) (lacks : Bool) → lacks_numbers (tables_of s) ≡ lacks
     → import_verdict s file (accepted samples)
-    ≡ (if lacks then refuses ids_refusal else accepts (recording_reply 201 (new_recording s file samples)) (imported s file samples))
+    ≡ (if lacks then stays ids_refusal else accepts (recording_reply 201 (new_recording s file samples)) (imported s file samples))
 import_verdict-lacks s file samples lacks h =
-    ap (λ b. if b then refuses ids_refusal else accepts (recording_reply 201 (new_recording s file samples)) (imported s file samples)) h
+    ap (λ b. if b then stays ids_refusal else accepts (recording_reply 201 (new_recording s file samples)) (imported s file samples)) h
 
 -- both numbers are left where none is lacking
 below_end : (a b end : ℕ) → (nat_le end a || nat_le end b) ≡ false → (a < end) × (b < end)
@@ -62,7 +62,7 @@ RefusesBy-ids s file samples reply before now reads lacks is =
     let status : reply.status ≡ 409 = ap (λ (r : Reply). r.status) is in
     record {
       answers = record {
-        way = as_decided (refuses ids_refusal);
+        way = as_decided (stays ids_refusal);
         answers = ((accepted samples, reads, sym (import_verdict-lacks s file samples true lacks)), is, refl);
       };
       vault = λ e. absurd (other_status reply 409 502 status (omega arith) e);

@@ -1,4 +1,5 @@
 pub mod Changing
 pub mod Deciding
+pub mod FoundRows
 pub mod Measuring
 pub mod Texts

@@ -8,6 +8,7 @@ use Rattle.library_model.specs.declared.messages.Command.{Command}
 use Rattle.library_model.specs.declared.messages.Command.TheVariants.{Import}
 use Rattle.library_model.specs.declared.messages.Request.{Request}
 use Rattle.library_model.specs.declared.messages.Reply.{Reply}
+use Rattle.library_model.specs.Asked.{change}
 use Rattle.library_model.specs.State.{State, IsValid}
 use Rattle.library_model.specs.Machine.{Decides, accepts, Answer}
 use Rattle.library_model.specs.Stands.{tables_of, HoldsFiles}
@@ -23,7 +24,7 @@ HoldsFileOf (Import file) key blobs = blobs key ≡ Some file
 -- with its file put, the vault holds the files of that state. Its reply is a 201.
 pub record Prepares (s : State) (request : Request) (p : Prepared) : Type 0 where
   pub next : State
-  pub decides : Decides s request (accepts p.reply next)
+  pub decides : Decides s (change request) (accepts p.reply next)
   pub valid : IsValid next
   pub rows : changed_all p.batch.changes (tables_of s) ≡ tables_of next
   pub files : (old new : Blobs) → HoldsFiles old s.recordings → OthersKept s.next_take old new
@@ -32,7 +33,7 @@ pub record Prepares (s : State) (request : Request) (p : Prepared) : Type 0 wher
 
 -- A refusal answers the request, with no change: 502 only where the vault's count rose, and never 503 or 504.
 pub record RefusesBy (s : State) (request : Request) (reply : Reply) (before now : ℕ) : Type 0 where
-  pub answers : Answer s request reply s
+  pub answers : Answer s (change request) reply s
   pub vault : reply.status ≡ 502 → Rose before now
   pub keeper : reply.status ≢ 504
   pub memory : reply.status ≢ 503

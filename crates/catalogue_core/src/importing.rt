@@ -14,7 +14,7 @@ use lib_base::{Kind, Memory, Summary, Text};
 use md5::{Digest, Md5};
 
 /// The peak of a 16-bit sample of size 1, in units of 2^-36 of full scale.
-const SAMPLE_UNIT: u64 = 2_097_152;
+pub const SAMPLE_UNIT: u64 = 2_097_152;
 
 /// Prepares the import of a file of these levels, and makes room for it. It takes all the memory
 /// that the import wants.
@@ -32,7 +32,13 @@ pub fn prepare_import(
     library.recordings.reserve(2)?;
     library.segments.reserve(2)?;
     let row = new_row(library, file, levels);
-    let reply = describe_recording(alloc, 201, levels.frames, row.id, levels.sample_peak)?;
+    let reply = describe_recording(
+        alloc,
+        201,
+        levels.frames,
+        row.id,
+        u64::from(levels.sample_peak),
+    )?;
     let keeper_refusal = refuse(alloc, 504, "keeper")?;
     let memory_refusal = refuse(alloc, 503, "memory")?;
     let batch = import_batch(library, row)?;

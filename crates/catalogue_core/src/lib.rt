@@ -1,12 +1,14 @@
 //! The catalogue: the library as a machine over a keeper and a vault.
 //!
 //! `stage` decides a request, takes all the memory that accepting it wants, and puts its file into
-//! the vault; `commit` makes the change with one `apply` of the keeper. They promise that each
+//! the vault; `commit` makes the change with one `apply` of the keeper; `ask` answers a question.
+//! They promise that each
 //! reply is one that the machine gives from the state that the library keeps, that a fault is
 //! answered only where it was counted, and that the library keeps the tables of the state that the
 //! reply leads to.
 #![tactic(auto)]
 
+mod asking;
 mod committing;
 mod examining;
 mod importing;
@@ -18,6 +20,7 @@ mod staging;
 #[cfg(test)]
 mod tests;
 
+pub use asking::ask;
 pub use committing::commit;
 pub use libraries::{BadRow, Library, OpenRefusal};
 pub use prepared::{Prepared, Staged};

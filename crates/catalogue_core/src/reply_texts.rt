@@ -32,7 +32,7 @@ pub fn describe_recording(
     status: u16,
     frames: u64,
     id: u32,
-    sample_peak: u32,
+    sample_peak: u64,
 ) -> Result<Reply, Memory>
     ensures { IfOk result (λ reply. reply ≡ model.json status (model.recording_text frames id sample_peak)) }
 {
@@ -44,7 +44,7 @@ fn recording_text(
     alloc: Global,
     frames: u64,
     id: u32,
-    sample_peak: u32,
+    sample_peak: u64,
 ) -> Result<String, AllocError>
     ensures { IfOk result (λ text. string_bytes text ≡ model.recording_text frames id sample_peak) }
 {
@@ -56,7 +56,7 @@ fn recording_value(
     alloc: Global,
     frames: u64,
     id: u32,
-    sample_peak: u32,
+    sample_peak: u64,
 ) -> Result<Value, AllocError>
     ensures { IfOk result (λ value. view value ≡ object (member (codes "frames") (number (unsigned frames))
         (member (codes "id") (number (unsigned id))

@@ -2,10 +2,10 @@
 ghost use Rattle.std.specs.Prelude.{◌≡◌, Some};
 ghost use Rattle.catalogue_core.specs.Kept.{kept_tables};
 
-use crate::{BadRow, Library, OpenRefusal, Staged, commit, stage};
+use crate::{BadRow, Library, OpenRefusal, Staged, ask, commit, stage};
 use keeper_store::{Keeper, MemKeeper, MemVault, Tables, Vault};
 use lib_base::{Bytes, Memory};
-use library_model::{Command, Reply, Request};
+use library_model::{Command, Question, Reply, Request};
 use std::test::Fail;
 
 /// A wave of the samples 0, 16384, -16384 and 1.
@@ -110,5 +110,24 @@ fn an_import_is_kept(rt: HostRuntime) -> Result<(), Fail> {
         held.as_ref().map(|bytes| bytes.as_slice()),
         Some(FOUR.as_slice())
     );
+    Ok(())
+}
+
+#[test]
+fn a_question_is_answered_from_the_rows(rt: HostRuntime) -> Result<(), Fail> {
+    let alloc = rt.alloc();
+    let mut keeper = MemKeeper::new(alloc, Tables::empty(alloc), Vec::new(alloc));
+    let mut vault = MemVault::new(alloc, Vec::new(alloc));
+    let mut library = Library::open(alloc, &mut keeper)?;
+    import(&mut library, FOUR.as_slice(), &mut keeper, &mut vault)?;
+    for (id, status, body) in [
+        (1, 200, r#"{"frames":4,"id":1,"sample_peak":16384}"#),
+        (2, 404, r#"{"error":"no-recording"}"#),
+    ] {
+        let reply = ask(&library, &Question::Recording(id), &mut vault)?;
+        assert_eq!(rt; reply.status, status, "{id}");
+        assert_eq!(rt; reply.body.as_slice(), body.as_bytes(), "{id}");
+    }
+    assert_eq!(rt; vault.calls(), 1);
     Ok(())
 }

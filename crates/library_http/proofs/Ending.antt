@@ -33,6 +33,7 @@ Session-unread start left text w keeps = (
     written = Appends-none text;
     leads = Leads-same start w keeps;
     counts = Counts-none w;
+    calls = refl;
   })),
 )
 

@@ -4,5 +4,6 @@ pub mod Ending
 pub mod FieldLemmas
 pub mod FramingLemmas
 pub mod Goings
+pub mod NumberLemmas
 pub mod ServingLemmas
 pub mod SpellingLemmas

@@ -1,21 +1,29 @@
 -- What a session did, put together from what its steps did.
-use Rattle.std.proofs.Common.{◌≡◌, ℕ, suc, ◌+◌, ◌<◌, ◌≤◌, ◌≢◌, inl, inr, true, false, Option, List, [], ◌∷◌, ◌++◌, length, refl, sym, ap, subst, arith, length-append}
+use Rattle.std.proofs.Common.{◌≡◌, ℕ, suc, ◌+◌, ◌<◌, ◌≤◌, ◌≢◌, inl, inr, true, false, Option, List, [], ◌∷◌, ◌++◌, Ok, Err, OnOk, OnErr, Result, length, drop, refl, sym, ap, ◌∙◌, subst, arith, length-append, length-drop}
+use Rattle.std.specs.List.{AllByRecursion}
 use Rattle.std.specs.Io.KnownBytes.{Appends, IsAtEnd}
+use Rattle.lib_base.specs.declared.outcomes.Outside.{Outside}
+use Rattle.lib_base.specs.declared.outcomes.Outside.TheVariants as outside
 use Rattle.lib_base.specs.Writes.{AppendsPart}
 use Rattle.keeper_store.specs.Blobs.{Blobs}
 use Rattle.keeper_store.specs.declared.contents.Tables.{Tables}
 use Rattle.library_model.specs.declared.messages.Reply.{Reply}
-use Rattle.library_model.specs.declared.messages.Request.{Request}
+use Rattle.library_model.specs.Asked.{Asked, IsQuestion}
 use Rattle.library_model.specs.Framing.{Begins, BeginNoRequest, EndsAs, RequestsOf, End, ended, unframeable, output, input_limit}
 use Rattle.library_model.specs.Machine.{Answers, count_status}
 use Rattle.library_model.specs.Replies.{spelled, spelled_all, size_refusal, frame_refusal}
 use Rattle.library_model.specs.Stands.{tables_of, HoldsFiles}
 use Rattle.library_model.specs.State.{State}
-use Rattle.library_model.proofs.Readings.{RequestsOf-unique}
+use Rattle.library_model.proofs.Readings.{RequestsOf-unique, Begins-shorter}
 use Rattle.library_model.proofs.Runs.{BeginWith-push, Answers-push, spelled_all-push, count_status-push}
 use Rattle.catalogue_core.specs.Kept.{Keeps}
-use Rattle.library_http.specs.declared.serving.Stop.TheVariants.{AtEnd, AtRefusal}
-use Rattle.library_http.specs.Sessions.{Leads, Counts, Acts, Serves, Replied, PartlyReplied, Progress, Answered, BreaksOff, BreaksOffAtEnd, Stops}
+use Rattle.library_http.specs.declared.serving.Stop.{Stop}
+use Rattle.library_http.specs.declared.serving.Stop.TheVariants.{AtEnd, AtRefusal, AtSinkFault, AtMemory}
+use Rattle.library_http.specs.declared.serving.Turn.{Turn}
+use Rattle.library_http.specs.declared.serving.Turn.TheVariants.{Stopped}
+use Rattle.library_http.specs.declared.serving.Turn.TheVariants as turn
+use Rattle.library_http.specs.Sessions.{Leads, Counts, Acts, ActInTurn, Serves, Replied, PartlyReplied, Progress, Answered, BreaksOff, BreaksOffAtEnd, Turns, turn_of, GoesOn, Stops}
+use Rattle.library_http.specs.Framed.{HasRequest}
 use Rattle.library_http.specs.World.{World, RoseBy}
 use Rattle.library_http.proofs.Goings.{Goes-then, Goes-same, Appends-then, Appends-then-part, Appends-none, RoseBy-then, RoseBy-none}
 
@@ -68,6 +76,14 @@ Counts-none w = record { vault = RoseBy-none w.vault_faults; keeper = RoseBy-non
 
 -- ---- requests that were answered
 
+-- Of a list that has one more, the others and that one have the property.
+AllByRecursion-split : {A : Type 0} (P : A → Type 0) (xs : List A) (x : A) → AllByRecursion P (xs ++ x ∷ [])
+    → AllByRecursion P xs × P x
+AllByRecursion-split P [] x all = (tt, all.0)
+AllByRecursion-split P (y ∷ xs) x all =
+    let others = AllByRecursion-split P xs x all.1 in
+    ((all.0, others.0), others.1)
+
 -- No request was answered yet.
 pub Serves-none : (start : State) (bytes : List ℕ) (w : World) → Keeps w.library start → Serves start bytes bytes [] w w
 Serves-none start bytes w keeps = record {
@@ -77,10 +93,26 @@ Serves-none start bytes w keeps = record {
   answers = refl;
   leads = Leads-same start w keeps;
   counts = Counts-none w;
+  calls = λ all. refl;
+  turns = (refl, refl);
 }
 
+-- Requests that were answered in turn, and then one more.
+ActInTurn-push : (s mid last : State) (requests : List Asked) (replies : List Reply) (request : Asked) (reply : Reply)
+    (w0 w1 w2 : World) → ActInTurn s requests replies mid w0 w1 → (acts : Acts mid request reply w1 w2) → last ≡ acts.next
+    → ActInTurn s (requests ++ request ∷ []) (replies ++ reply ∷ []) last w0 w2
+ActInTurn-push s mid last [] [] request reply w0 w1 w2 turns acts is =
+    let Turn_from : State → World → Type 0 = λ t w. (acts : Acts t request reply w w2) → last ≡ acts.next
+    → ActInTurn s (request ∷ []) (reply ∷ []) last w0 w2 in
+    let here : Turn_from s w0 = λ acts is. (w2, acts, (is, refl)) in
+    subst (λ (w : World). Turn_from mid w) (sym turns.1) (subst (λ (t : State). Turn_from t w0) (sym turns.0) here) acts is
+ActInTurn-push s mid last (first ∷ requests) (said ∷ replies) request reply w0 w1 w2 turns acts is =
+    (turns.0, turns.1, ActInTurn-push turns.1.next mid last requests replies request reply turns.0 w1 w2 turns.2 acts is)
+ActInTurn-push s mid last [] (said ∷ replies) request reply w0 w1 w2 turns acts is = absurd turns
+ActInTurn-push s mid last (first ∷ requests) [] request reply w0 w1 w2 turns acts is = absurd turns
+
 -- Requests were answered, and then the next one.
-pub Serves-push : (start : State) (bytes rest later : List ℕ) (replies : List Reply) (request : Request)
+pub Serves-push : (start : State) (bytes rest later : List ℕ) (replies : List Reply) (request : Asked)
     (w0 w1 w2 : World) (serves : Serves start bytes rest replies w0 w1) → Begins rest request later → (reply : Reply)
     → Acts serves.state request reply w1 w2 → Serves start bytes later (replies ++ reply ∷ []) w0 w2
 Serves-push start bytes rest later replies request w0 w1 w2 serves begins reply acts = record {
@@ -90,10 +122,14 @@ Serves-push start bytes rest later replies request w0 w1 w2 serves begins reply 
   answers = Answers-push start serves.state acts.next serves.requests replies request reply serves.answers acts.answers;
   leads = Leads-then start serves.state acts.next w0 w1 w2 serves.leads acts.leads;
   counts = Counts-then replies reply w0 w1 w2 serves.counts acts.counts;
+  calls = λ all.
+      let each = AllByRecursion-split IsQuestion serves.requests request all in
+      acts.calls each.1 ∙ serves.calls each.0;
+  turns = ActInTurn-push start serves.state acts.next serves.requests replies request reply w0 w1 w2 serves.turns acts refl;
 }
 
 -- As many requests were answered as there are replies.
-pub Answers-length : (s last : State) (requests : List Request) (replies : List Reply)
+pub Answers-length : (s last : State) (requests : List Asked) (replies : List Reply)
     → Answers s requests replies last → length requests ≡ length replies
 Answers-length s last [] [] answers = refl
 Answers-length s last (request ∷ requests) (reply ∷ replies) answers =
@@ -116,6 +152,8 @@ Serves-Answered start input rest end replies w0 w1 short serves ends =
       counted = sym (Answers-length start serves.state serves.requests replies serves.answers);
       leads = serves.leads;
       counts = serves.counts;
+      calls = serves.calls;
+      turns = serves.turns;
     }
 
 -- ---- replies that were written
@@ -132,7 +170,7 @@ Progress-none start bytes text w keeps = record {
 
 -- Requests were answered, and then the next one, and its reply was written.
 pub Progress-push : (start : State) (bytes rest later : List ℕ) (n : ℕ) (text0 text1 text2 : Option (List ℕ))
-    (request : Request) (w0 w1 w2 : World) (progress : Progress start bytes rest n text0 text1 w0 w1)
+    (request : Asked) (w0 w1 w2 : World) (progress : Progress start bytes rest n text0 text1 w0 w1)
     → Begins rest request later → Replied progress.serves.state request text1 text2 w1 w2
     → Progress start bytes later (n + 1) text0 text2 w0 w2
 Progress-push start bytes rest later n text0 text1 text2 request w0 w1 w2 progress begins replied =
@@ -176,7 +214,7 @@ Progress-Stops-refusal start input rest n text0 text1 w0 w1 short progress ends 
 
 -- It breaks off where the next reply was written in part.
 pub Progress-BreaksOff : (start : State) (bytes rest later : List ℕ) (n : ℕ) (text0 text1 text2 : Option (List ℕ))
-    (request : Request) (w0 w1 w2 : World) → length bytes ≤ input_limit
+    (request : Asked) (w0 w1 w2 : World) → length bytes ≤ input_limit
     → (progress : Progress start bytes rest n text0 text1 w0 w1) → Begins rest request later
     → PartlyReplied progress.serves.state request text1 text2 w1 w2 → BreaksOff start bytes n text0 text2 w0 w2
 Progress-BreaksOff start bytes rest later n text0 text1 text2 request w0 w1 w2 within progress begins partly =
@@ -195,6 +233,59 @@ Progress-BreaksOff start bytes rest later n text0 text1 text2 request w0 w1 w2 w
       counted = progress.counted;
     }
 
+-- ---- one turn of serving
+
+-- A turn whose reply was written, or written in part.
+pub Turns-written : (s : State) (bytes : List ℕ) (end : ℕ) (request : Asked) (written : Result (Unit {0}) Outside)
+    (turn : Turn) (text0 text1 : Option (List ℕ)) (w0 w1 : World) → turn ≡ turn_of end written → HasRequest bytes request end → OnOk written (Replied s request text0 text1 w0 w1)
+    → OnErr written (PartlyReplied s request text0 text1 w0 w1) → Turns s bytes turn text0 text1 w0 w1
+Turns-written s bytes end request written turn text0 text1 w0 w1 is has ok err =
+    subst (λ (t : Turn). Turns s bytes t text0 text1 w0 w1) (sym is) (by_case written ok err)
+  where
+    by_case : (written : Result (Unit {0}) Outside) → OnOk written (Replied s request text0 text1 w0 w1)
+        → OnErr written (PartlyReplied s request text0 text1 w0 w1) → Turns s bytes (turn_of end written) text0 text1 w0 w1
+    by_case (Ok done) ok err = (request, has, ok)
+    by_case (Err outside.Failed) ok err = (request, drop end bytes, has.begins, err)
+    by_case (Err outside.Memory) ok err = (request, drop end bytes, has.begins, err)
+
+-- A turn whose request was answered passes over that.
+pub GoesOn-written : (bytes : List ℕ) (end : ℕ) (request : Asked) (written : Result (Unit {0}) Outside) (turn : Turn)
+    → turn ≡ turn_of end written → HasRequest bytes request end → GoesOn bytes turn
+GoesOn-written bytes end request written turn is has = subst (GoesOn bytes) (sym is) (by_case written)
+  where
+    by_case : (written : Result (Unit {0}) Outside) → GoesOn bytes (turn_of end written)
+    by_case (Ok done) =
+        let shorter = Begins-shorter bytes request (drop end bytes) has.begins in
+        let inside = has.in_range in
+        (omega (arith, shorter, length-drop end bytes), inside)
+    by_case (Err outside.Failed) = tt
+    by_case (Err outside.Memory) = tt
+
+-- Serving that goes on to the next request.
+pub Progress-turn : (start : State) (input rest : List ℕ) (n end : ℕ) (text0 text1 text2 : Option (List ℕ)) (w0 w1 w2 : World)
+    (progress : Progress start input rest n text0 text1 w0 w1)
+    → Turns progress.serves.state rest (turn.Answered end) text1 text2 w1 w2
+    → Progress start input (drop end rest) (n + 1) text0 text2 w0 w2
+Progress-turn start input rest n end text0 text1 text2 w0 w1 w2 progress turns =
+    Progress-push start input rest (drop end rest) n text0 text1 text2 turns.0 w0 w1 w2 progress turns.1.begins turns.2
+
+-- Serving that stops.
+pub Progress-Stops : (start : State) (input rest : List ℕ) (n : ℕ) (stop : Stop) (text0 text1 text2 : Option (List ℕ))
+    (w0 w1 w2 : World) → length input ≤ input_limit → (progress : Progress start input rest n text0 text1 w0 w1)
+    → Turns progress.serves.state rest (Stopped stop) text1 text2 w1 w2 → Stops start input stop n text0 text2 w0 w2
+Progress-Stops start input rest n AtEnd text0 text1 text2 w0 w1 w2 short progress turns =
+    subst (λ (w : World). Stops start input AtEnd n text0 text2 w0 w) (sym turns.2)
+    (subst (λ (t : Option (List ℕ)). Stops start input AtEnd n text0 t w0 w1) (sym turns.1)
+    (Progress-Stops-end start input rest n text0 text1 w0 w1 short progress turns.0))
+Progress-Stops start input rest n AtRefusal text0 text1 text2 w0 w1 w2 short progress turns =
+    subst (λ (w : World). Stops start input AtRefusal n text0 text2 w0 w) (sym turns.3)
+    (subst (λ (t : Option (List ℕ)). Stops start input AtRefusal n text0 t w0 w1) (sym turns.2)
+    (Progress-Stops-refusal start input rest n text0 text1 w0 w1 short progress (turns.0, turns.1)))
+Progress-Stops start input rest n AtSinkFault text0 text1 text2 w0 w1 w2 short progress turns =
+    Progress-BreaksOff start input rest turns.1 n text0 text1 text2 turns.0 w0 w1 w2 short progress turns.2 turns.3
+Progress-Stops start input rest n AtMemory text0 text1 text2 w0 w1 w2 short progress turns =
+    Progress-BreaksOff start input rest turns.1 n text0 text1 text2 turns.0 w0 w1 w2 short progress turns.2 turns.3
+
 -- ---- the end of a session
 
 -- An input that is too long has no requests, and ends by its refusal.
@@ -211,6 +302,8 @@ Answered-too-long start input w keeps long =
       counted = refl;
       leads = Leads-same start w keeps;
       counts = Counts-none w;
+      calls = λ all. refl;
+      turns = (refl, refl);
     }
 
 -- A session breaks off where all requests were answered, and the refusal that ends it was written in part.

@@ -1,15 +1,20 @@
 -- What a session does.
-use Rattle.std.specs.Prelude.{◌≡◌, ◌≢◌, ◌≤◌, ◌+◌, ◌⊎◌, ℕ, true, false, List, [], ◌∷◌, ◌++◌, length, Option, Some, None}
+use Rattle.std.specs.Prelude.{◌≡◌, ◌≢◌, ◌≤◌, ◌+◌, ◌⊎◌, ℕ, true, false, List, [], ◌∷◌, ◌++◌, length, Option, Some, None, Result, Ok, Err, ⊤}
+use Rattle.std.specs.List.{AllByRecursion}
 use Rattle.std.specs.Io.KnownBytes.{Appends, Consumes, IsAtEnd}
+use Rattle.lib_base.specs.Faults.{Rose}
+use Rattle.keeper_store.specs.Blobs.{OthersKept}
 use Rattle.keeper_store.specs.Goes.{Goes}
 use Rattle.library_model.specs.declared.messages.Reply.{Reply}
-use Rattle.library_model.specs.declared.messages.Request.{Request}
-use Rattle.library_model.specs.Framing.{BeginWith, RequestsOf, End, ended, unframeable, output, input_limit}
-use Rattle.library_model.specs.Machine.{Answer, Answers, count_status}
+use Rattle.library_model.specs.Asked.{Asked, IsQuestion}
+use Rattle.library_model.specs.Framing.{Begins, BeginWith, BeginNoRequest, RequestsOf, End, ended, unframeable, output, input_limit}
+use Rattle.library_model.specs.Machine.{Verdict, Answer, Answers, AnswersBy, as_decided, without_memory, count_status}
 use Rattle.library_model.specs.Replies.{spelled, spelled_all, memory_refusal, frame_refusal}
 use Rattle.library_model.specs.Stands.{tables_of, HoldsFiles}
 use Rattle.library_model.specs.State.{State}
 use Rattle.catalogue_core.specs.Kept.{Keeps}
+use Rattle.lib_base.specs.declared.outcomes.Outside.{Outside}
+use Rattle.lib_base.specs.declared.outcomes.Outside.TheVariants as outside
 use Rattle.lib_base.specs.declared.sources.ReadEnd.{ReadEnd}
 use Rattle.lib_base.specs.declared.sources.ReadEnd.TheVariants as read
 use Rattle.lib_base.specs.Writes.{AppendsPart}
@@ -17,6 +22,10 @@ use Rattle.library_http.specs.declared.serving.How.{How}
 use Rattle.library_http.specs.declared.serving.How.TheVariants.{Ended, Unframeable, SourceFault, SinkFault, Memory}
 use Rattle.library_http.specs.declared.serving.Stop.{Stop}
 use Rattle.library_http.specs.declared.serving.Stop.TheVariants.{AtEnd, AtRefusal, AtSinkFault, AtMemory}
+use Rattle.library_http.specs.declared.serving.Turn.{Turn}
+use Rattle.library_http.specs.declared.serving.Turn.TheVariants.{Stopped}
+use Rattle.library_http.specs.declared.serving.Turn.TheVariants as turn
+use Rattle.library_http.specs.Framed.{HasRequest}
 use Rattle.library_http.specs.World.{World, RoseBy}
 
 -- The library goes from one state to another: it keeps the second, and where the tables and the files were those of the
@@ -31,22 +40,43 @@ pub record Counts (replies : List Reply) (before now : World) : Type 0 where
   pub vault : RoseBy (count_status 502 replies) before.vault_faults now.vault_faults
   pub keeper : RoseBy (count_status 504 replies) before.keeper_faults now.keeper_faults
 
--- a request was answered from a state
-pub record Acts (s : State) (request : Request) (reply : Reply) (before now : World) : Type 0 where
+-- a request was answered as it is decided, or memory was wanting
+abbrev pub IsSettled : State → Asked → Reply → State → Type 0
+IsSettled s request reply next =
+    ((verdict : Verdict) × AnswersBy (as_decided verdict) s request reply next)
+    ⊎ AnswersBy without_memory s request reply next
+
+-- A request was answered from a state, a question with no call of the vault. The vault changed under the next take alone.
+-- Where neither count of faults rose, it was answered as it is decided, or memory was wanting.
+pub record Acts (s : State) (request : Asked) (reply : Reply) (before now : World) : Type 0 where
   pub next : State
   pub answers : Answer s request reply next
   pub leads : Leads s next before now
   pub counts : Counts (reply ∷ []) before now
+  pub calls : IsQuestion request → now.vault_calls ≡ before.vault_calls
+  pub keys : Goes (OthersKept s.next_take) before.blobs now.blobs
+  pub complete : ¬ Rose before.vault_faults now.vault_faults → ¬ Rose before.keeper_faults now.keeper_faults
+      → IsSettled s request reply next
+
+-- The requests were answered in order, each from the state and the world that the one before it left.
+abbrev pub ActInTurn : State → List Asked → List Reply → State → World → World → Type 0
+ActInTurn s [] [] last before now = (last ≡ s) × (now ≡ before)
+ActInTurn s (request ∷ requests) (reply ∷ replies) last before now =
+    (mid : World) × (acts : Acts s request reply before mid) × ActInTurn acts.next requests replies last mid now
+ActInTurn s [] (reply ∷ replies) last before now = ⊥
+ActInTurn s (request ∷ requests) [] last before now = ⊥
 
 -- The bytes are requests and then rest, and the requests were answered in order, each from the state that the one before
--- it left.
+-- it left. Where all were questions, the vault was not called.
 pub record Serves (start : State) (bytes rest : List ℕ) (replies : List Reply) (before now : World) : Type 0 where
-  pub requests : List Request
+  pub requests : List Asked
   pub state : State
   pub begins : BeginWith bytes requests rest
   pub answers : Answers start requests replies state
   pub leads : Leads start state before now
   pub counts : Counts replies before now
+  pub calls : AllByRecursion IsQuestion requests → now.vault_calls ≡ before.vault_calls
+  pub turns : ActInTurn start requests replies state before now
 
 -- the reply, or that to want of memory
 abbrev pub reply_given : Option Reply → Reply
@@ -54,13 +84,13 @@ reply_given (Some reply) = reply
 reply_given None = memory_refusal
 
 -- a request was answered, and its reply was written
-pub record Replied (s : State) (request : Request) (text_before text_now : Option (List ℕ)) (before now : World) : Type 0 where
+pub record Replied (s : State) (request : Asked) (text_before text_now : Option (List ℕ)) (before now : World) : Type 0 where
   pub reply : Reply
   pub acts : Acts s request reply before now
   pub written : Appends text_before text_now (spelled false reply)
 
 -- a request was answered, and a part of its reply was written
-pub record PartlyReplied (s : State) (request : Request) (text_before text_now : Option (List ℕ)) (before now : World) : Type 0 where
+pub record PartlyReplied (s : State) (request : Asked) (text_before text_now : Option (List ℕ)) (before now : World) : Type 0 where
   pub reply : Reply
   pub acts : Acts s request reply before now
   pub written : AppendsPart text_before text_now (spelled false reply)
@@ -72,16 +102,19 @@ pub record Progress (start : State) (bytes rest : List ℕ) (answered : ℕ) (te
   pub counted : answered ≡ length replies
   pub written : Appends text_before text_now (spelled_all replies)
 
--- All the requests of an input were answered, as many as `answered`, and it ends so. No other requests are those of the input.
+-- All the requests of an input were answered, as many as `answered`, and it ends so. No other requests are those of the
+-- input. Where all were questions, the vault was not called.
 pub record Answered (start : State) (input : List ℕ) (end : End) (answered : ℕ) (replies : List Reply) (before now : World) : Type 0 where
-  pub requests : List Request
+  pub requests : List Asked
   pub state : State
   pub reads : RequestsOf input requests end
-  pub only : (others : List Request) (other : End) → RequestsOf input others other → (others ≡ requests) × (other ≡ end)
+  pub only : (others : List Asked) (other : End) → RequestsOf input others other → (others ≡ requests) × (other ≡ end)
   pub answers : Answers start requests replies state
   pub counted : answered ≡ length requests
   pub leads : Leads start state before now
   pub counts : Counts replies before now
+  pub calls : AllByRecursion IsQuestion requests → now.vault_calls ≡ before.vault_calls
+  pub turns : ActInTurn start requests replies state before now
 
 -- A session broke off in a reply: as many requests as `answered` were answered whole, and the next one acted, of whose reply
 -- a part was written.
@@ -119,6 +152,31 @@ pub record Unread (start : State) (input : List ℕ) (answered : ℕ) (text_befo
   pub written : Appends text_before text_now []
   pub leads : Leads start start before now
   pub counts : Counts [] before now
+  pub calls : now.vault_calls ≡ before.vault_calls
+
+-- what a turn of serving is whose reply was written, or written in part, where what follows `end` bytes is left then
+abbrev pub turn_of : ℕ → Result (Unit {0}) Outside → Turn
+turn_of end (Ok done) = turn.Answered end
+turn_of end (Err outside.Failed) = Stopped AtSinkFault
+turn_of end (Err outside.Memory) = Stopped AtMemory
+
+-- a turn that goes on passes over a byte or more
+abbrev pub GoesOn : List ℕ → Turn → Type 0
+GoesOn bytes (turn.Answered end) = (1 ≤ end) × (end ≤ length bytes)
+GoesOn bytes (Stopped stop) = ⊤
+
+-- What a turn of serving does from a state, over the bytes that are left.
+abbrev pub Turns : State → List ℕ → Turn → Option (List ℕ) → Option (List ℕ) → World → World → Type 0
+Turns s bytes (turn.Answered end) text_before text_now before now =
+    (request : Asked) × HasRequest bytes request end × Replied s request text_before text_now before now
+Turns s bytes (Stopped AtEnd) text_before text_now before now =
+    (bytes ≡ []) × (text_now ≡ text_before) × (now ≡ before)
+Turns s bytes (Stopped AtRefusal) text_before text_now before now =
+    (bytes ≢ []) × BeginNoRequest bytes × (text_now ≡ text_before) × (now ≡ before)
+Turns s bytes (Stopped AtSinkFault) text_before text_now before now =
+    (request : Asked) × (rest : List ℕ) × Begins bytes request rest × PartlyReplied s request text_before text_now before now
+Turns s bytes (Stopped AtMemory) text_before text_now before now =
+    (request : Asked) × (rest : List ℕ) × Begins bytes request rest × PartlyReplied s request text_before text_now before now
 
 -- What serving the requests of an input does that stops so.
 abbrev pub Stops : State → List ℕ → Stop → ℕ → Option (List ℕ) → Option (List ℕ) → World → World → Type 0

@@ -3,6 +3,7 @@ ghost use Rattle.std.specs.Prelude.{◌≡◌, ◌≤◌, false, IsErrOf, OnOk, 
 ghost use Rattle.std.specs.Io.KnownBytes.{Appends};
 ghost use Rattle.lib_base.specs.Faults.{Rose};
 ghost use Rattle.lib_base.specs.Writes.{AppendsPart};
+ghost use Rattle.library_model.specs.Asked.{change};
 ghost use Rattle.library_model.specs.Replies.{spelled};
 ghost use Rattle.library_model.specs.State.{State};
 ghost use Rattle.catalogue_core.specs.Kept.{Keeps};
@@ -24,9 +25,9 @@ pub fn answer<D: Keeper, V: Vault>(
     keeper: &mut D,
     vault: &mut V,
 ) -> Option<Reply>
-    ensures acts { (s : State) → Keeps library.old s → Acts s request (reply_given result)
-        (world library.old (D.tables keeper.old) (V.blobs vault.old) (D.faults keeper.old) (V.faults vault.old))
-        (world library.new (D.tables keeper.new) (V.blobs vault.new) (D.faults keeper.new) (V.faults vault.new)) }
+    ensures acts { (s : State) → Keeps library.old s → Acts s (change request) (reply_given result)
+        (world library.old (D.tables keeper.old) (V.blobs vault.old) (D.faults keeper.old) (V.faults vault.old) (V.calls vault.old))
+        (world library.new (D.tables keeper.new) (V.blobs vault.new) (D.faults keeper.new) (V.faults vault.new) (V.calls vault.new)) }
     ensures keeper_later { D.faults keeper.old ≤ D.faults keeper.new }
     ensures vault_later { V.faults vault.old ≤ V.faults vault.new }
 {
@@ -45,9 +46,9 @@ pub fn answer_import<D: Keeper, V: Vault>(
     keeper: &mut D,
     vault: &mut V,
 ) -> Option<Reply>
-    ensures acts { (s : State) → Keeps library.old s → Acts s (record { command = Command.Import file.now }) (reply_given result)
-        (world library.old (D.tables keeper.old) (V.blobs vault.old) (D.faults keeper.old) (V.faults vault.old))
-        (world library.new (D.tables keeper.new) (V.blobs vault.new) (D.faults keeper.new) (V.faults vault.new)) }
+    ensures acts { (s : State) → Keeps library.old s → Acts s (change (record { command = Command.Import file.now })) (reply_given result)
+        (world library.old (D.tables keeper.old) (V.blobs vault.old) (D.faults keeper.old) (V.faults vault.old) (V.calls vault.old))
+        (world library.new (D.tables keeper.new) (V.blobs vault.new) (D.faults keeper.new) (V.faults vault.new) (V.calls vault.new)) }
     ensures keeper_later { D.faults keeper.old ≤ D.faults keeper.new }
     ensures vault_later { V.faults vault.old ≤ V.faults vault.new }
 {

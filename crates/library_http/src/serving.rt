@@ -1,19 +1,22 @@
 //! A session: an input read, its requests answered, and its end.
 ghost use Rattle.std.specs.Prelude.{◌≡◌, ◌≤◌, length, IsErrOf, OnOk, OnErr, ◌⊎◌};
 ghost use Rattle.lib_base.specs.Faults.{Rose};
+ghost use Rattle.library_model.specs.Asked as asked;
+ghost use Rattle.library_model.specs.Asked.{change};
 ghost use Rattle.library_model.specs.Framing.{input_limit};
 ghost use Rattle.library_model.specs.State.{State};
 ghost use Rattle.catalogue_core.specs.Kept.{Keeps};
-ghost use Rattle.library_http.specs.Sessions.{Replied, PartlyReplied, Stops, EndsAfter, EndsBy, Session};
-ghost use Rattle.library_http.specs.World.{world};
+ghost use Rattle.library_http.specs.Sessions as sessions;
+ghost use Rattle.library_http.specs.Sessions.{Replied, PartlyReplied, GoesOn, Turns, Stops, EndsAfter, EndsBy, Session};
+ghost use Rattle.library_http.specs.World.{World, world};
 
 use crate::answering::{answer_import, write_given};
 use crate::framing::{Framed, frame};
 use crate::spelling::{frame_reply, size_reply};
-use catalogue_core::Library;
+use catalogue_core::{Library, ask};
 use keeper_store::{Keeper, Vault};
 use lib_base::{Outside, ReadEnd, Sink, Source, read_up_to, write_all};
-use library_model::Command;
+use library_model::{Command, Question};
 use std::alloc::Global;
 
 /// The greatest length of an input, in bytes.
@@ -54,6 +57,15 @@ pub enum Stop {
     AtMemory,
 }
 
+/// What one turn of serving does.
+#[derive(Clone, Copy, Debug)]
+enum Turn {
+    /// A request was answered whole. What follows this many bytes is left.
+    Answered(usize),
+    /// Serving stops.
+    Stopped(Stop),
+}
+
 /// Where the serving of an input stopped, and how many requests it answered whole.
 #[derive(Clone, Copy, Debug)]
 struct Served {
@@ -73,8 +85,8 @@ pub fn session<S: Source, K: Sink, D: Keeper, V: Vault>(
 ) -> SessionEnd
     ensures session { (start : State) → Keeps library.old start → Session start result.how result.answered
         (S.left source.old) (S.left source.new) (K.written sink.old) (K.written sink.new)
-        (world library.old (D.tables keeper.old) (V.blobs vault.old) (D.faults keeper.old) (V.faults vault.old))
-        (world library.new (D.tables keeper.new) (V.blobs vault.new) (D.faults keeper.new) (V.faults vault.new)) }
+        (world library.old (D.tables keeper.old) (V.blobs vault.old) (D.faults keeper.old) (V.faults vault.old) (V.calls vault.old))
+        (world library.new (D.tables keeper.new) (V.blobs vault.new) (D.faults keeper.new) (V.faults vault.new) (V.calls vault.new)) }
     ensures source_cause { result.how ≡ How.SourceFault → Rose (S.faults source.old) (S.faults source.new) }
     ensures sink_cause { result.how ≡ How.SinkFault → Rose (K.faults sink.old) (K.faults sink.new) }
     ensures source_later { S.faults source.old ≤ S.faults source.new }
@@ -143,8 +155,8 @@ fn serve<K: Sink, D: Keeper, V: Vault>(
     requires { length input.now ≤ input_limit }
     ensures stops { (start : State) → Keeps library.old start → Stops start input.now result.stop result.answered
         (K.written sink.old) (K.written sink.new)
-        (world library.old (D.tables keeper.old) (V.blobs vault.old) (D.faults keeper.old) (V.faults vault.old))
-        (world library.new (D.tables keeper.new) (V.blobs vault.new) (D.faults keeper.new) (V.faults vault.new)) }
+        (world library.old (D.tables keeper.old) (V.blobs vault.old) (D.faults keeper.old) (V.faults vault.old) (V.calls vault.old))
+        (world library.new (D.tables keeper.new) (V.blobs vault.new) (D.faults keeper.new) (V.faults vault.new) (V.calls vault.new)) }
     ensures sink_cause { result.stop ≡ Stop.AtSinkFault → Rose (K.faults sink.old) (K.faults sink.new) }
     ensures sink_later { K.faults sink.old ≤ K.faults sink.new }
     ensures keeper_later { D.faults keeper.old ≤ D.faults keeper.new }
@@ -153,30 +165,59 @@ fn serve<K: Sink, D: Keeper, V: Vault>(
     let mut rest = input;
     let mut answered = 0u32;
     'requests: loop {
-        let body = match frame(rest) {
-            Framed::Ended => return Served {
-                stop: Stop::AtEnd,
-                answered,
-            },
-            Framed::Unframeable => return Served {
-                stop: Stop::AtRefusal,
-                answered,
-            },
-            Framed::Import(body) => body,
-        };
-        let file = &rest[body.start..body.end];
-        match serve_import(alloc, library, keeper, vault, file, sink) {
-            Ok(()) => answered += 1,
-            Err(Outside::Failed) => return Served {
-                stop: Stop::AtSinkFault,
-                answered,
-            },
-            Err(Outside::Memory) => return Served {
-                stop: Stop::AtMemory,
-                answered,
-            },
+        match serve_next(alloc, library, keeper, vault, rest, sink) {
+            Turn::Answered(end) => {
+                answered += 1;
+                rest = rest.split_at(end).1;
+            }
+            Turn::Stopped(stop) => return Served { stop, answered },
         }
-        rest = rest.split_at(body.end).1;
+    }
+}
+
+/// Answers the request at the front of the bytes, and writes its reply.
+fn serve_next<K: Sink, D: Keeper, V: Vault>(
+    alloc: Global,
+    library: &mut Library,
+    keeper: &mut D,
+    vault: &mut V,
+    bytes: &[u8],
+    sink: &mut K,
+) -> Turn
+    ensures turns { (s : State) → Keeps library.old s → Turns s bytes.now result (K.written sink.old) (K.written sink.new)
+        (world library.old (D.tables keeper.old) (V.blobs vault.old) (D.faults keeper.old) (V.faults vault.old) (V.calls vault.old))
+        (world library.new (D.tables keeper.new) (V.blobs vault.new) (D.faults keeper.new) (V.faults vault.new) (V.calls vault.new)) }
+    ensures goes_on { GoesOn bytes.now result }
+    ensures sink_cause { result ≡ Turn.Stopped Stop.AtSinkFault → Rose (K.faults sink.old) (K.faults sink.new) }
+    ensures sink_later { K.faults sink.old ≤ K.faults sink.new }
+    ensures keeper_later { D.faults keeper.old ≤ D.faults keeper.new }
+    ensures vault_later { V.faults vault.old ≤ V.faults vault.new }
+{
+    match frame(bytes) {
+        Framed::Ended => Turn::Stopped(Stop::AtEnd),
+        Framed::Unframeable => Turn::Stopped(Stop::AtRefusal),
+        Framed::Import(body) => {
+            let file = &bytes[body.start..body.end];
+            turn_of(
+                body.end,
+                serve_import(alloc, library, keeper, vault, file, sink),
+            )
+        }
+        Framed::Question { question, end } => {
+            turn_of(end, serve_question(alloc, library, vault, &question, sink))
+        }
+    }
+}
+
+/// The turn whose reply was written, or written in part, where what follows `end` bytes is left
+/// then.
+fn turn_of(end: usize, written: Result<(), Outside>) -> Turn
+    ensures { result ≡ sessions.turn_of end written }
+{
+    match written {
+        Ok(()) => Turn::Answered(end),
+        Err(Outside::Failed) => Turn::Stopped(Stop::AtSinkFault),
+        Err(Outside::Memory) => Turn::Stopped(Stop::AtMemory),
     }
 }
 
@@ -190,13 +231,13 @@ fn serve_import<K: Sink, D: Keeper, V: Vault>(
     sink: &mut K,
 ) -> Result<(), Outside>
     ensures ok { (s : State) → Keeps library.old s → OnOk result
-        (Replied s (record { command = Command.Import file.now }) (K.written sink.old) (K.written sink.new)
-        (world library.old (D.tables keeper.old) (V.blobs vault.old) (D.faults keeper.old) (V.faults vault.old))
-        (world library.new (D.tables keeper.new) (V.blobs vault.new) (D.faults keeper.new) (V.faults vault.new))) }
+        (Replied s (change (record { command = Command.Import file.now })) (K.written sink.old) (K.written sink.new)
+        (world library.old (D.tables keeper.old) (V.blobs vault.old) (D.faults keeper.old) (V.faults vault.old) (V.calls vault.old))
+        (world library.new (D.tables keeper.new) (V.blobs vault.new) (D.faults keeper.new) (V.faults vault.new) (V.calls vault.new))) }
     ensures err { (s : State) → Keeps library.old s → OnErr result
-        (PartlyReplied s (record { command = Command.Import file.now }) (K.written sink.old) (K.written sink.new)
-        (world library.old (D.tables keeper.old) (V.blobs vault.old) (D.faults keeper.old) (V.faults vault.old))
-        (world library.new (D.tables keeper.new) (V.blobs vault.new) (D.faults keeper.new) (V.faults vault.new))) }
+        (PartlyReplied s (change (record { command = Command.Import file.now })) (K.written sink.old) (K.written sink.new)
+        (world library.old (D.tables keeper.old) (V.blobs vault.old) (D.faults keeper.old) (V.faults vault.old) (V.calls vault.old))
+        (world library.new (D.tables keeper.new) (V.blobs vault.new) (D.faults keeper.new) (V.faults vault.new) (V.calls vault.new))) }
     ensures sink_cause { IsErrOf result Outside.Failed → Rose (K.faults sink.old) (K.faults sink.new) }
     ensures sink_later { K.faults sink.old ≤ K.faults sink.new }
     ensures keeper_later { D.faults keeper.old ≤ D.faults keeper.new }
@@ -204,4 +245,24 @@ fn serve_import<K: Sink, D: Keeper, V: Vault>(
 {
     let given = answer_import(alloc, library, file, keeper, vault);
     write_given(alloc, &given, sink)
+}
+
+/// Answers a question from what the library keeps, with no call of the vault, and writes its reply.
+fn serve_question<K: Sink, V: Vault>(
+    alloc: Global,
+    library: &Library,
+    vault: &mut V,
+    question: &Question,
+    sink: &mut K,
+) -> Result<(), Outside>
+    ensures ok { (s : State) (w : World) → Keeps w.library s → w.library ≡ library.now → OnOk result
+        (Replied s (asked.question question.now) (K.written sink.old) (K.written sink.new) w w) }
+    ensures err { (s : State) (w : World) → Keeps w.library s → w.library ≡ library.now → OnErr result
+        (PartlyReplied s (asked.question question.now) (K.written sink.old) (K.written sink.new) w w) }
+    ensures vault { vault.new ≡ vault.old }
+    ensures sink_cause { IsErrOf result Outside.Failed → Rose (K.faults sink.old) (K.faults sink.new) }
+    ensures sink_later { K.faults sink.old ≤ K.faults sink.new }
+{
+    let answer = ask(library, question, vault).ok();
+    write_given(alloc, &answer, sink)
 }

@@ -3,12 +3,19 @@ use crate::{Framed, How, SessionEnd, frame, memory_reply, session, spell};
 use catalogue_core::Library;
 use keeper_store::{MemKeeper, MemVault, Tables};
 use lib_base::{Bytes, MemSink, MemSource, Memory, Span};
-use library_model::{BodyKind, Reply};
+use library_model::{BodyKind, Question, Reply};
 use std::alloc::{AllocError, Global};
 use std::test::Fail;
 
 fn import(start: usize, end: usize) -> Framed {
     Framed::Import(Span { start, end })
+}
+
+fn question(id: u32, end: usize) -> Framed {
+    Framed::Question {
+        question: Question::Recording(id),
+        end,
+    }
 }
 
 #[test]
@@ -48,6 +55,23 @@ fn frames(rt: HostRuntime) {
             "GET /recordings HTTP/1.1\r\nContent-Length: 3\r\n\r\nabc",
             Framed::Unframeable,
         ),
+        (
+            "GET /recordings/2147483646 HTTP/1.1\r\nContent-Length: 3\r\n\r\nabc",
+            question(2_147_483_646, 58),
+        ),
+        (
+            "GET /recordings/2147483647 HTTP/1.0\r\n\r\n",
+            question(0, 39),
+        ),
+        ("GET /recordings/ HTTP/1.1\r\n\r\n", question(0, 29)),
+        ("GET /recordings/07 HTTP/1.1\r\n\r\n", question(0, 31)),
+        ("GET /recordings/+7 HTTP/1.1\r\n\r\n", question(0, 31)),
+        ("GET /recordings/\u{e9} HTTP/1.1\r\n\r\n", question(0, 31)),
+        (
+            "GET /recordings/7/file HTTP/1.1\r\n\r\n",
+            Framed::Unframeable,
+        ),
+        ("HEAD /recordings/7 HTTP/1.1\r\n\r\n", Framed::Unframeable),
         (
             "POST /recording HTTP/1.1\r\nContent-Length: 3\r\n\r\nabc",
             Framed::Unframeable,

@@ -1,6 +1,8 @@
 -- Worked rows: what the definitions say of one recording, of its replies and of one request.
-use Rattle.std.proofs.Common.{◌≡◌, ℕ, true, false, Some, None, List, [], ◌∷◌, ◌++◌, codes, refl, inl, arith}
+use Rattle.std.proofs.Common.{◌≡◌, ◌==◌, ℕ, true, false, Some, None, List, [], ◌∷◌, ◌++◌, codes, refl, inl, arith}
 use Rattle.std.proofs.lemmas.List.Elements.{All-from_recursion}
+use Rattle.std.proofs.lemmas.Bool.Decides.{nat_tests}
+use Rattle.std.specs.List.{AllByRecursion}
 use Rattle.std.proofs.lemmas.List.Sums.{AllPass-from_list_all}
 use Rattle.std.specs.Fmt.{digits}
 use Rattle.std.specs.Char.{encode_utf8}
@@ -11,11 +13,13 @@ use Rattle.lib_base.specs.declared.outcomes.Rule.TheVariants.{K}
 use Rattle.file_model.specs.Reading.{Reads, accepted, broken}
 use Rattle.file_model.proofs.Rows.{four_frames, four_samples, four_frames_read}
 use Rattle.library_model.specs.declared.messages.Command.TheVariants.{Import}
-use Rattle.library_model.specs.Framing.{BeginsImport, is_named, only_length, RequestsOf, ended}
-use Rattle.library_model.specs.Machine.{recording_reply, import_verdict, accepts, refuses}
-use Rattle.library_model.specs.Replies.{json, spelled, format_refusal, frame_refusal, size_refusal, memory_refusal}
+use Rattle.library_model.specs.Asked.{change, question}
+use Rattle.library_model.specs.declared.messages.Question.TheVariants as about
+use Rattle.library_model.specs.Framing.{BeginsImport, is_named, only_length, has_slash, id_asked, RequestsOf, ended}
+use Rattle.library_model.specs.Machine.{recording_reply, import_verdict, imported, question_reply, recording_of, accepts, stays}
+use Rattle.library_model.specs.Replies.{json, spelled, format_refusal, frame_refusal, size_refusal, no_recording_refusal, memory_refusal}
 use Rattle.library_model.specs.Stands.{recording_row}
-use Rattle.library_model.specs.State.{Recording, State, empty_state}
+use Rattle.library_model.specs.State.{Recording, State, IsGiven, IsValid, empty_state}
 
 -- ---- one recording
 
@@ -75,6 +79,14 @@ pub spelled-size_refusal : spelled true size_refusal
     ++ 13 ∷ 10 ∷ 13 ∷ 10 ∷ codes "{\"error\":\"size\"}"
 unfolding digits
 spelled-size_refusal = refl
+
+-- The refusal of a question after a recording that is not there.
+pub spelled-no_recording_refusal : spelled false no_recording_refusal
+    ≡ codes "HTTP/1.1 404 Not Found" ++ 13 ∷ 10 ∷ codes "Content-Type: application/json"
+    ++ 13 ∷ 10 ∷ codes "Content-Length: 24"
+    ++ 13 ∷ 10 ∷ 13 ∷ 10 ∷ codes "{\"error\":\"no-recording\"}"
+unfolding digits
+spelled-no_recording_refusal = refl
 
 -- The refusal for want of memory.
 pub spelled-memory_refusal : spelled false memory_refusal
@@ -181,8 +193,113 @@ row_request-BeginsImport = row_request (codes "X")
 -- An input that is that import alone.
 pub row_request-RequestsOf : RequestsOf
     (codes "POST /recordings HTTP/1.1" ++ 13 ∷ 10 ∷ codes "Content-Length: 3" ++ 13 ∷ 10 ∷ 13 ∷ 10 ∷ codes "abc")
-    (record { command = Import (codes "abc") } ∷ []) ended
+    (change (record { command = Import (codes "abc") }) ∷ []) ended
 row_request-RequestsOf = inl (omega arith, ([], ([], (codes "abc", refl, row_request []), refl), refl))
+
+-- The head of a question after recording 9.
+abbrev pub row_question_head : RequestHead
+row_question_head = record {
+  blank = [];
+  method = codes "GET";
+  target = codes "/recordings/9";
+  minor = 1;
+  line_end = crlf;
+  fields = record { name = codes "Host"; raw = codes " a"; end = crlf } ∷ [];
+  last = crlf;
+}
+
+-- The bytes of that head, before whatever follows.
+pub row_question_head-ReadsRequest : (rest : List ℕ) → ReadsRequest
+    (codes "GET /recordings/9 HTTP/1.1" ++ 13 ∷ 10 ∷ codes "Host: a" ++ 13 ∷ 10 ∷ 13 ∷ 10 ∷ rest)
+    row_question_head rest
+unfolding httparse_on_literals encode_utf8
+row_question_head-ReadsRequest rest = (
+  record {
+    method = (omega arith, AllPass-from_list_all is_token_byte (codes "GET") refl);
+    target = (omega arith, AllPass-from_list_all is_uri_byte (codes "/recordings/9") refl);
+    target_text = (codes "/recordings/9", (refl, refl));
+    minor = omega arith;
+    fields = All-from_recursion IsField row_question_head.fields (
+      record {
+        name = (omega arith, AllPass-from_list_all is_token_byte (codes "Host") refl);
+        raw = AllPass-from_list_all is_value_byte (codes " a") refl;
+      },
+      tt,
+    );
+  },
+  refl,
+)
+
+-- An input that is that question alone.
+pub row_question-RequestsOf : RequestsOf
+    (codes "GET /recordings/9 HTTP/1.1" ++ 13 ∷ 10 ∷ codes "Host: a" ++ 13 ∷ 10 ∷ 13 ∷ 10 ∷ [])
+    (question (about.Recording 9) ∷ []) ended
+unfolding httparse_on_literals
+row_question-RequestsOf = inl (
+  omega arith,
+  (
+    [],
+    (
+      [],
+      (
+        codes "9",
+        refl,
+        record {
+          head = row_question_head;
+          reads = row_question_head-ReadsRequest [];
+          within = (omega arith, omega arith);
+          method = refl;
+          target = refl;
+          piece = refl;
+        },
+      ),
+      refl,
+    ),
+    refl,
+  ),
+)
+
+-- ---- ids in paths
+
+-- The first id.
+pub id_asked-first : id_asked (codes "1") ≡ 1
+id_asked-first = refl
+
+-- The last id that can be given.
+pub id_asked-last : id_asked (codes "2147483646") ≡ 2147483646
+id_asked-last = refl
+
+-- The number after it is no id.
+pub id_asked-past_last : id_asked (codes "2147483647") ≡ 0
+id_asked-past_last = refl
+
+-- A number of many digits is no id, also where its last 32 bits are those of one.
+pub id_asked-long : id_asked (codes "4294967297") ≡ 0
+id_asked-long = refl
+
+-- Nothing is no id.
+pub id_asked-empty : id_asked (codes "") ≡ 0
+id_asked-empty = refl
+
+-- Zero is no id.
+pub id_asked-zero : id_asked (codes "0") ≡ 0
+id_asked-zero = refl
+
+-- A zero in front makes no id.
+pub id_asked-zero_in_front : id_asked (codes "01") ≡ 0
+id_asked-zero_in_front = refl
+
+-- A sign makes no id.
+pub id_asked-sign : id_asked (codes "+1") ≡ 0
+id_asked-sign = refl
+
+-- A letter makes no id.
+pub id_asked-letter : id_asked (codes "1a") ≡ 0
+id_asked-letter = refl
+
+-- A further piece of a path has a slash.
+pub has_slash-piece : has_slash (codes "1/file") ≡ true
+has_slash-piece = refl
 
 -- An input of no bytes has no request.
 pub RequestsOf-nothing : RequestsOf [] [] ended
@@ -197,9 +314,31 @@ pub import_verdict-accepts : import_verdict empty_state (four_frames 1) (accepte
 unfolding digits
 import_verdict-accepts = refl
 
+-- From the state that it leads to, a question after recording 1 is answered with the same body.
+pub question_reply-imported : question_reply (imported empty_state (four_frames 1) four_samples) (about.Recording 1)
+    ≡ json 200 (codes "{\"frames\":4,\"id\":1,\"sample_peak\":16384}")
+unfolding digits
+question_reply-imported = refl
+
+-- Another one finds nothing.
+pub question_reply-other : question_reply (imported empty_state (four_frames 1) four_samples) (about.Recording 2)
+    ≡ json 404 (codes "{\"error\":\"no-recording\"}")
+question_reply-other = refl
+
+-- No recording of a valid state has the id 0.
+pub recording_of-zero : (s : State) → IsValid s → recording_of 0 s.recordings ≡ None
+recording_of-zero s valid = not_given s.next_recording s.recordings valid.ids_given
+  where
+    not_given : (next : ℕ) (recordings : List Recording)
+        → AllByRecursion (λ (r : Recording). IsGiven next r.id) recordings → recording_of 0 recordings ≡ None
+    not_given next [] given = refl
+    not_given next (r ∷ recordings) given =
+        let other : (r.id == 0) ≡ false = grind (arith, nat_tests, given.0) in
+        rw other (not_given next recordings given.1)
+
 -- A file that breaks a rule is refused by it.
 pub import_verdict-broken : import_verdict empty_state (codes "RIFF") (broken (K 0) 0)
-    ≡ refuses (json 422 (codes "{\"error\":\"format\",\"place\":0,\"rule\":\"K0\"}"))
+    ≡ stays (json 422 (codes "{\"error\":\"format\",\"place\":0,\"rule\":\"K0\"}"))
 unfolding digits
 import_verdict-broken = refl
 
@@ -209,7 +348,7 @@ row_full = record { next_album = 1; next_recording = 2147483647; next_take = 1; 
 
 -- No number is left there.
 pub import_verdict-full : import_verdict row_full (four_frames 1) (accepted four_samples)
-    ≡ refuses (json 409 (codes "{\"error\":\"ids\"}"))
+    ≡ stays (json 409 (codes "{\"error\":\"ids\"}"))
 import_verdict-full = refl
 
 -- The state before it has one number left.

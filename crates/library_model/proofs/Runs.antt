@@ -1,8 +1,8 @@
 -- Runs of requests and of replies that grow by one at their end.
 use Rattle.std.proofs.Common.{◌≡◌, ℕ, ◌+◌, List, [], ◌∷◌, ◌++◌, refl, sym, ap, ◌∙◌, subst, arith, append_assoc, append-nil}
 use Rattle.std.specs.Prelude.{◌==◌, if◌then◌else◌}
-use Rattle.library_model.specs.declared.messages.Request.{Request}
 use Rattle.library_model.specs.declared.messages.Reply.{Reply}
+use Rattle.library_model.specs.Asked.{Asked}
 use Rattle.library_model.specs.Framing.{Begins, BeginWith}
 use Rattle.library_model.specs.Machine.{Answer, Answers, count_status}
 use Rattle.library_model.specs.Replies.{spelled, spelled_all}
@@ -10,7 +10,7 @@ use Rattle.library_model.specs.State.{State}
 use Rattle.std.specs.Prelude.{false}
 
 -- Requests, and then one more.
-pub BeginWith-push : (bytes : List ℕ) (requests : List Request) (mid rest : List ℕ) (request : Request)
+pub BeginWith-push : (bytes : List ℕ) (requests : List Asked) (mid rest : List ℕ) (request : Asked)
     → BeginWith bytes requests mid → Begins mid request rest → BeginWith bytes (requests ++ request ∷ []) rest
 BeginWith-push bytes [] mid rest request begin next =
     (rest, subst (λ (b : List ℕ). Begins b request rest) (sym begin) next, refl)
@@ -18,7 +18,7 @@ BeginWith-push bytes (first ∷ requests) mid rest request begin next =
     (begin.0, begin.1, BeginWith-push begin.0 requests mid rest request begin.2 next)
 
 -- Answers, and then one more.
-pub Answers-push : (s mid last : State) (requests : List Request) (replies : List Reply) (request : Request)
+pub Answers-push : (s mid last : State) (requests : List Asked) (replies : List Reply) (request : Asked)
     (reply : Reply) → Answers s requests replies mid → Answer mid request reply last
     → Answers s (requests ++ request ∷ []) (replies ++ reply ∷ []) last
 Answers-push s mid last [] [] request reply answers next =

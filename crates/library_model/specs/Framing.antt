@@ -1,14 +1,17 @@
 -- The requests that bytes spell (RFC 9112).
-use Rattle.std.specs.Prelude.{◌≡◌, ◌≢◌, ◌<◌, ◌≤◌, ◌⊎◌, ◌&&◌, ℕ, Bool, true, List, [], ◌∷◌, ◌++◌, length, map, codes, nat_le, Option, None, Some, if◌then◌else◌}
+use Rattle.std.specs.Prelude.{◌≡◌, ◌≢◌, ◌<◌, ◌≤◌, ◌⊎◌, ◌==◌, ◌&&◌, not, ℕ, Bool, true, false, List, [], ◌∷◌, ◌++◌, length, map, codes, nat_le, nat_lt, slice_index, Option, None, Some, if◌then◌else◌}
 use Rattle.std.specs.Char.{to_ascii_lowercase}
+use Rattle.std.specs.List.{list_any}
 use Rattle.std.specs.Str.{bytes_eq, all_ascii_digits}
 use Rattle.std.specs.Str.Parse.{digits_value}
 use Rattle.httparse.specs.Grammar.{RequestHead, ReadsRequest, print_request}
 use Rattle.httparse.specs.Spans.{name_and_value}
 use Rattle.library_model.specs.declared.messages.Command.TheVariants.{Import}
-use Rattle.library_model.specs.declared.messages.Request.{Request}
+use Rattle.library_model.specs.declared.messages.Question.TheVariants as about
 use Rattle.library_model.specs.declared.messages.Reply.{Reply}
+use Rattle.library_model.specs.Asked.{Asked, change, question}
 use Rattle.library_model.specs.Replies.{frame_refusal, size_refusal, spelled, spelled_all}
+use Rattle.library_model.specs.State.{numbers_end}
 
 -- the greatest length of an input, in bytes
 abbrev pub input_limit : ℕ
@@ -55,18 +58,42 @@ pub record BeginsImport (bytes file rest : List ℕ) : Type 0 where
   pub target : head.target ≡ codes "/recordings"
   pub body : body_length head ≡ Some (length file)
 
--- The bytes begin with that request, and go on with rest.
-abbrev pub Begins : List ℕ → Request → List ℕ → Type 0
-Begins bytes request rest = (file : List ℕ) × (request ≡ record { command = Import file }) × BeginsImport bytes file rest
+-- a slash in a text
+abbrev pub has_slash : List ℕ → Bool
+has_slash text = list_any (λ b. b == 47) text
+
+-- decimal digits with no zero in front, of a number from 1 that can be given
+abbrev pub is_id : List ℕ → Bool
+is_id text =
+    all_ascii_digits text && not (slice_index text 0 == 48)
+    && nat_le 1 (digits_value 10 text) && nat_lt (digits_value 10 text) numbers_end
+
+-- the id that a text writes, and 0, which no recording has, where it writes none
+abbrev pub id_asked : List ℕ → ℕ
+id_asked text = if is_id text then digits_value 10 text else 0
+
+-- The bytes begin with the question after that text in the place of an id, and go on with rest.
+pub record BeginsQuestion (bytes text rest : List ℕ) : Type 0 where
+  pub head : RequestHead
+  pub reads : ReadsRequest bytes head rest
+  pub within : IsHeadWithin head
+  pub method : head.method ≡ codes "GET"
+  pub target : head.target ≡ codes "/recordings/" ++ text
+  pub piece : has_slash text ≡ false
+
+-- The bytes begin with what is asked, and go on with rest.
+abbrev pub Begins : List ℕ → Asked → List ℕ → Type 0
+Begins bytes (change request) rest = (file : List ℕ) × (request ≡ record { command = Import file }) × BeginsImport bytes file rest
+Begins bytes (question asked) rest = (text : List ℕ) × (asked ≡ about.Recording (id_asked text)) × BeginsQuestion bytes text rest
 
 -- The bytes are these requests, one after another, and then rest.
-abbrev pub BeginWith : List ℕ → List Request → List ℕ → Type 0
+abbrev pub BeginWith : List ℕ → List Asked → List ℕ → Type 0
 BeginWith bytes [] rest = bytes ≡ rest
 BeginWith bytes (request ∷ requests) rest = (mid : List ℕ) × Begins bytes request mid × BeginWith mid requests rest
 
 -- no request begins the bytes
 abbrev pub BeginNoRequest : List ℕ → Type 0
-BeginNoRequest bytes = (request : Request) (rest : List ℕ) → ¬ Begins bytes request rest
+BeginNoRequest bytes = (request : Asked) (rest : List ℕ) → ¬ Begins bytes request rest
 
 -- how an input ends: with its last request, or with what can't be framed and the reply to that
 pub data End : Type 0 where
@@ -88,7 +115,7 @@ EndsAs rest ended = rest ≡ []
 EndsAs rest (unframeable reply) = (rest ≢ []) × BeginNoRequest rest × (reply ≡ frame_refusal)
 
 -- The input is these requests, and ends so. An input past the limit is refused alone.
-abbrev pub RequestsOf : List ℕ → List Request → End → Type 0
+abbrev pub RequestsOf : List ℕ → List Asked → End → Type 0
 RequestsOf input requests end =
     ((length input ≤ input_limit) × ((rest : List ℕ) × BeginWith input requests rest × EndsAs rest end))
     ⊎ ((input_limit < length input) × (requests ≡ []) × (end ≡ unframeable size_refusal))

@@ -1,18 +1,21 @@
 -- The library as a machine: how it answers a request, and where it goes from there.
-use Rattle.std.specs.Prelude.{◌≡◌, ◌+◌, ◌||◌, ◌==◌, ℕ, ℤ, List, [], ◌∷◌, length, nat_le, if◌then◌else◌, ⊤}
+use Rattle.std.specs.Prelude.{◌≡◌, ◌+◌, ◌||◌, ◌==◌, ℕ, ℤ, List, [], ◌∷◌, length, nat_le, Option, None, Some, if◌then◌else◌, ⊤}
+use Rattle.std.specs.List.{find}
 use Rattle.file_model.specs.Reading.{Reading, Reads, accepted, broken}
 use Rattle.file_model.specs.Sizes.{greatest_size}
 use Rattle.keeper_store.specs.Puts.{put}
 use Rattle.library_model.specs.declared.messages.Command.{Command}
 use Rattle.library_model.specs.declared.messages.Command.TheVariants.{Import}
-use Rattle.library_model.specs.declared.messages.Request.{Request}
+use Rattle.library_model.specs.declared.messages.Question.{Question}
+use Rattle.library_model.specs.declared.messages.Question.TheVariants as about
 use Rattle.library_model.specs.declared.messages.Reply.{Reply}
-use Rattle.library_model.specs.Replies.{json, recording_text, format_refusal, ids_refusal, vault_refusal, memory_refusal, keeper_refusal}
+use Rattle.library_model.specs.Asked.{Asked, change, question}
+use Rattle.library_model.specs.Replies.{json, recording_text, format_refusal, ids_refusal, no_recording_refusal, vault_refusal, memory_refusal, keeper_refusal}
 use Rattle.library_model.specs.State.{Recording, State, numbers_end, recording_before}
 
--- a request is refused, or accepted with a reply and the state that it leads to
+-- a request is answered and the state stays, or it is accepted with a reply and the state that it leads to
 pub data Verdict : Type 0 where
-  refuses : Reply → Verdict
+  stays : Reply → Verdict
   accepts : Reply → State → Verdict
 
 -- what is replied about a recording
@@ -33,33 +36,47 @@ imported s file samples = record s {
 
 -- An import of a file that breaks a rule is refused by that rule, and one for which no number is left as `ids`.
 abbrev pub import_verdict : State → List ℕ → Reading → Verdict
-import_verdict s file (broken rule place) = refuses (format_refusal rule place)
+import_verdict s file (broken rule place) = stays (format_refusal rule place)
 import_verdict s file (accepted samples) =
     if nat_le numbers_end s.next_recording || nat_le numbers_end s.next_take
-    then refuses ids_refusal
+    then stays ids_refusal
     else accepts (recording_reply 201 (new_recording s file samples)) (imported s file samples)
 
 -- the verdict on a command, by what its file reads as
 abbrev pub DecidesCommand : State → Command → Verdict → Type 0
 DecidesCommand s (Import file) verdict = (reading : Reading) × Reads file reading × (verdict ≡ import_verdict s file reading)
 
--- the verdict on a request
-abbrev pub Decides : State → Request → Verdict → Type 0
-Decides s request verdict = DecidesCommand s request.command verdict
+-- the recording of an id, if there is one
+abbrev pub recording_of : ℕ → List Recording → Option Recording
+recording_of id recordings = find (λ (r : Recording). r.id == id) recordings
+
+-- what is replied about what was looked for
+abbrev pub found_reply : Option Recording → Reply
+found_reply (Some r) = recording_reply 200 r
+found_reply None = no_recording_refusal
+
+-- what is replied to a question
+abbrev pub question_reply : State → Question → Reply
+question_reply s (about.Recording id) = found_reply (recording_of id s.recordings)
+
+-- the verdict on what is asked: a question is answered from the state
+abbrev pub Decides : State → Asked → Verdict → Type 0
+Decides s (change request) verdict = DecidesCommand s request.command verdict
+Decides s (question asked) verdict = verdict ≡ stays (question_reply s asked)
 
 -- what is replied as a verdict says
 abbrev pub verdict_reply : Verdict → Reply
-verdict_reply (refuses reply) = reply
+verdict_reply (stays reply) = reply
 verdict_reply (accepts reply next) = reply
 
--- the state after a verdict: a refusal changes nothing
+-- the state after a verdict
 abbrev pub state_after : State → Verdict → State
-state_after s (refuses reply) = s
+state_after s (stays reply) = s
 state_after s (accepts reply next) = next
 
 -- the verdict accepts
 abbrev pub IsAccepted : Verdict → Type 0
-IsAccepted (refuses reply) = ⊥
+IsAccepted (stays reply) = ⊥
 IsAccepted (accepts reply next) = ⊤
 
 -- the ways in which a request is answered: as its verdict says, or with no change for want of memory or for a fault
@@ -71,7 +88,7 @@ pub data Way : Type 0 where
 
 -- The reply and the next state of each way. Want of memory may come to any request; only an import that is accepted comes
 -- to the vault, and only a change that is accepted to the keeper.
-abbrev pub AnswersBy : Way → State → Request → Reply → State → Type 0
+abbrev pub AnswersBy : Way → State → Asked → Reply → State → Type 0
 AnswersBy (as_decided verdict) s request reply next =
     Decides s request verdict × (reply ≡ verdict_reply verdict) × (next ≡ state_after s verdict)
 AnswersBy without_memory s request reply next = (reply ≡ memory_refusal) × (next ≡ s)
@@ -81,12 +98,12 @@ AnswersBy (keeper_failed verdict) s request reply next =
     Decides s request verdict × IsAccepted verdict × (reply ≡ keeper_refusal) × (next ≡ s)
 
 -- From s, the library may answer the request with that reply and go on to next.
-pub record Answer (s : State) (request : Request) (reply : Reply) (next : State) : Type 0 where
+pub record Answer (s : State) (request : Asked) (reply : Reply) (next : State) : Type 0 where
   pub way : Way
   pub answers : AnswersBy way s request reply next
 
 -- From s, it may answer the requests in order with these replies, and end in last.
-abbrev pub Answers : State → List Request → List Reply → State → Type 0
+abbrev pub Answers : State → List Asked → List Reply → State → Type 0
 Answers s [] [] last = last ≡ s
 Answers s (request ∷ requests) (reply ∷ replies) last = (next : State) × Answer s request reply next × Answers next requests replies last
 Answers s [] (reply ∷ replies) last = ⊥

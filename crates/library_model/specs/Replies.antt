@@ -71,6 +71,10 @@ frame_refusal = refusal 400 (codes "frame")
 abbrev pub size_refusal : Reply
 size_refusal = refusal 413 (codes "size")
 
+-- no recording has the id that is asked for
+abbrev pub no_recording_refusal : Reply
+no_recording_refusal = refusal 404 (codes "no-recording")
+
 -- no number is left for a new recording
 abbrev pub ids_refusal : Reply
 ids_refusal = refusal 409 (codes "ids")

@@ -7,4 +7,4 @@
 
 mod messages;
 
-pub use messages::{BodyKind, Command, Reply, Request};
+pub use messages::{BodyKind, Command, Question, Reply, Request};

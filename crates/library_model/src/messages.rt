@@ -34,3 +34,10 @@ pub enum Command {
 pub struct Request {
     pub command: Command,
 }
+
+/// What is asked without a change.
+#[derive(Clone, Copy, Debug, PartialEq, Eq)]
+pub enum Question {
+    /// The recording of this id. No recording has the id 0.
+    Recording(u32),
+}

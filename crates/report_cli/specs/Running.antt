@@ -1,11 +1,13 @@
 -- What a run of the program does.
-use Rattle.std.specs.Prelude.{◌≡◌, ◌≤◌, ◌⊎◌, ℕ, List, [], ◌∷◌, ◌++◌, Option, Some, IfSome, codes, decimal}
+use Rattle.std.specs.Prelude.{◌≡◌, ◌≤◌, ◌⊎◌, ℕ, List, [], ◌∷◌, ◌++◌, Option, Some, IfSome, IsSome, IsNone, codes, decimal}
 use Rattle.std.specs.Io.KnownBytes.{Appends}
 use Rattle.lib_base.specs.Writes.{AppendsPart}
 use Rattle.keeper_store.specs.Blobs.{Blobs}
 use Rattle.keeper_store.specs.Changes.{empty_tables}
 use Rattle.keeper_store.specs.Goes.{Goes}
 use Rattle.keeper_store.specs.declared.contents.Tables.{Tables}
+use Rattle.library_model.specs.Asked.{Asked}
+use Rattle.library_model.specs.Framing.{End, ended, unframeable, RequestsOf}
 use Rattle.library_model.specs.State.{empty_state}
 use Rattle.catalogue_core.specs.declared.libraries.BadRow.{BadRow}
 use Rattle.catalogue_core.specs.declared.libraries.Library.{Library}
@@ -21,7 +23,7 @@ use Rattle.report_cli.specs.declared.statuses.Status.TheVariants as status
 use Rattle.report_cli.specs.Statuses.{code, status_of}
 
 -- What a run sees of its objects: what is left of the source, what was written to the sink, what the keeper and the vault
--- tell, and their counts of faults.
+-- tell, their counts of faults, and how often the vault was called.
 pub record Seen : Type 0 where
   pub left : Option (List ℕ)
   pub written : Option (List ℕ)
@@ -29,21 +31,23 @@ pub record Seen : Type 0 where
   pub blobs : Option Blobs
   pub keeper_faults : ℕ
   pub vault_faults : ℕ
+  pub vault_calls : ℕ
 
 -- what is seen of these
-abbrev pub seen : Option (List ℕ) → Option (List ℕ) → Option Tables → Option Blobs → ℕ → ℕ → Seen
-seen left written tables blobs keeper_faults vault_faults = record {
+abbrev pub seen : Option (List ℕ) → Option (List ℕ) → Option Tables → Option Blobs → ℕ → ℕ → ℕ → Seen
+seen left written tables blobs keeper_faults vault_faults vault_calls = record {
   left = left;
   written = written;
   tables = tables;
   blobs = blobs;
   keeper_faults = keeper_faults;
   vault_faults = vault_faults;
+  vault_calls = vault_calls;
 }
 
 -- what a session sees: a library, and the keeper and the vault
 abbrev pub world_of : Library → Seen → World
-world_of library s = world library s.tables s.blobs s.keeper_faults s.vault_faults
+world_of library s = world library s.tables s.blobs s.keeper_faults s.vault_faults s.vault_calls
 
 -- the words are the command: the one word `session`
 abbrev pub IsCommand : List (List ℕ) → Type 0
@@ -75,6 +79,7 @@ pub record Leaves (before now : Seen) : Type 0 where
   pub blobs : now.blobs ≡ before.blobs
   pub keeper_faults : before.keeper_faults ≤ now.keeper_faults
   pub vault_faults : now.vault_faults ≡ before.vault_faults
+  pub vault_calls : now.vault_calls ≡ before.vault_calls
 
 -- A session over a library ran from the empty state, and ended so, with so many requests answered whole.
 pub record SessionRan (library : Library) (how : How) (answered : ℕ) (before now : Seen) : Type 0 where
@@ -114,3 +119,22 @@ Runs (not_opened (refusal.BadRow row)) words before now n =
     × Prints (bad_row_line row) status.BadRow before.written now.written n
 Runs (served how answered) words before now n =
     IsCommand words × Served how answered before now × (n ≡ code (status_of how))
+
+-- the status of a run whose input ends so
+abbrev pub status_at : End → Status
+status_at ended = status.Ended
+status_at (unframeable reply) = status.Unframeable
+
+-- The status that words, an input and tables fix: that of words that are no command, that of tables with a row that breaks
+-- a rule, or that of the end of the input.
+abbrev pub IsFixed : List (List ℕ) → List ℕ → Tables → ℕ → Type 0
+IsFixed words input tables n =
+    (¬ IsCommand words × (n ≡ code status.Usage))
+    ⊎ ((IsCommand words × IsSome (first_bad tables) × (n ≡ code status.BadRow))
+    ⊎ (IsCommand words × IsNone (first_bad tables)
+    × ((requests : List Asked) × (end : End) × RequestsOf input requests end × (n ≡ code (status_at end)))))
+
+-- The status is the one that words, input and tables fix, where source and keeper tell these, or memory was wanting.
+abbrev pub IsComplete : List (List ℕ) → Option (List ℕ) → Option Tables → ℕ → Type 0
+IsComplete words left tables n =
+    IfSome left (λ input. IfSome tables (λ t. (n ≡ code status.Memory) ⊎ IsFixed words input t n))

@@ -4,7 +4,7 @@ ghost use Rattle.lib_base.specs.Faults.{Rose};
 ghost use Rattle.catalogue_core.specs.Opening.{first_bad};
 ghost use Rattle.keeper_store.specs.Changes.{empty_tables};
 ghost use Rattle.catalogue_core.specs.Kept.{kept_tables};
-ghost use Rattle.report_cli.specs.Running.{seen, IsCommand, IsBrokenOff, usage_line, bad_row_line, Prints, Course, Runs, SessionRan};
+ghost use Rattle.report_cli.specs.Running.{seen, IsCommand, IsBrokenOff, usage_line, bad_row_line, Prints, Course, Runs, SessionRan, IsComplete};
 ghost use Rattle.report_cli.specs.Statuses.{code, status_of};
 ghost use Rattle.library_http.specs.declared.serving.How.{How};
 
@@ -35,8 +35,8 @@ pub fn run<S: Source, K: Sink, D: Keeper, V: Vault, O: Door>(
     requires { O.is_out door.old ≡ false }
 
     ensures runs { (course : Course) × Runs course (map string_bytes words.now)
-        (seen (S.left source.old) (K.written sink.old) (D.tables keeper.old) (V.blobs vault.old) (D.faults keeper.old) (V.faults vault.old))
-        (seen (S.left source.new) (K.written sink.new) (D.tables keeper.new) (V.blobs vault.new) (D.faults keeper.new) (V.faults vault.new))
+        (seen (S.left source.old) (K.written sink.old) (D.tables keeper.old) (V.blobs vault.old) (D.faults keeper.old) (V.faults vault.old) (V.calls vault.old))
+        (seen (S.left source.new) (K.written sink.new) (D.tables keeper.new) (V.blobs vault.new) (D.faults keeper.new) (V.faults vault.new) (V.calls vault.new))
         result }
 
     // The causes of the statuses.
@@ -48,6 +48,11 @@ pub fn run<S: Source, K: Sink, D: Keeper, V: Vault, O: Door>(
     ensures bad_row_cause { result ≡ code Status.BadRow → IfSome (D.tables keeper.old) (λ t. IsSome (first_bad t)) }
     ensures bad_row { IsCommand (map string_bytes words.now) → IfSome (D.tables keeper.old) (λ t. IsSome (first_bad t)
         → (result ≡ code Status.BadRow) ⊎ ((result ≡ code Status.KeeperFault) ⊎ IsBrokenOff result)) }
+
+    // Where no count of source, sink or keeper rose, the status is the one that words, input and tables fix, or memory was wanting.
+    ensures complete { ¬ Rose (S.faults source.old) (S.faults source.new) → ¬ Rose (K.faults sink.old) (K.faults sink.new)
+        → ¬ Rose (D.faults keeper.old) (D.faults keeper.new)
+        → IsComplete (map string_bytes words.now) (S.left source.old) (D.tables keeper.old) result }
 
     // No count of faults falls.
     ensures source_later { S.faults source.old ≤ S.faults source.new }
@@ -75,8 +80,8 @@ fn run_session<S: Source, K: Sink, D: Keeper, V: Vault>(
     vault: &mut V,
 ) -> Status
     ensures runs { (words : List (List ℕ)) → IsCommand words → (course : Course) × Runs course words
-        (seen (S.left source.old) (K.written sink.old) (D.tables keeper.old) (V.blobs vault.old) (D.faults keeper.old) (V.faults vault.old))
-        (seen (S.left source.new) (K.written sink.new) (D.tables keeper.new) (V.blobs vault.new) (D.faults keeper.new) (V.faults vault.new))
+        (seen (S.left source.old) (K.written sink.old) (D.tables keeper.old) (V.blobs vault.old) (D.faults keeper.old) (V.faults vault.old) (V.calls vault.old))
+        (seen (S.left source.new) (K.written sink.new) (D.tables keeper.new) (V.blobs vault.new) (D.faults keeper.new) (V.faults vault.new) (V.calls vault.new))
         (code result) }
     ensures no_usage { result ≢ Status.Usage }
     ensures source_cause { result ≡ Status.SourceFault → Rose (S.faults source.old) (S.faults source.new) }
@@ -106,8 +111,8 @@ fn serve<S: Source, K: Sink, D: Keeper, V: Vault>(
     vault: &mut V,
 ) -> Status
     ensures serves { kept_tables library ≡ empty_tables → (how : How) × (answered : ℕ) × SessionRan library how answered
-        (seen (S.left source.old) (K.written sink.old) (D.tables keeper.old) (V.blobs vault.old) (D.faults keeper.old) (V.faults vault.old))
-        (seen (S.left source.new) (K.written sink.new) (D.tables keeper.new) (V.blobs vault.new) (D.faults keeper.new) (V.faults vault.new))
+        (seen (S.left source.old) (K.written sink.old) (D.tables keeper.old) (V.blobs vault.old) (D.faults keeper.old) (V.faults vault.old) (V.calls vault.old))
+        (seen (S.left source.new) (K.written sink.new) (D.tables keeper.new) (V.blobs vault.new) (D.faults keeper.new) (V.faults vault.new) (V.calls vault.new))
         × (result ≡ status_of how) }
     ensures source_cause { result ≡ Status.SourceFault → Rose (S.faults source.old) (S.faults source.new) }
     ensures sink_cause { result ≡ Status.SinkFault → Rose (K.faults sink.old) (K.faults sink.new) }

@@ -1,7 +1,7 @@
 //! Runs over objects in memory.
 use self::Piece::{
-    BadRow, Broken, CutImport, First, Frame, Import, NoKeeper, NoVault, Nothing, Question, Second,
-    Size, TwoChannels, Usage,
+    AskFirst, AskNinth, BadRow, Broken, CutImport, First, Found, Frame, Import, Missing, NoKeeper,
+    NoVault, Nothing, Second, Size, TwoChannels, Usage,
 };
 use crate::running::run;
 use keeper_store::{Keeper, MemKeeper, MemVault, Tables, Vault};
@@ -49,7 +49,15 @@ const BAD_ROW: &[u8] = b"bad row: table 1 id 1 rule 0\n";
 
 const CUT_IMPORT: &[u8] = b"POST /recordings HTTP/1.1\r\nContent-Length: 52\r\n\r\nRIFF";
 
-const QUESTION: &[u8] = b"GET /recordings/9 HTTP/1.1\r\nHost: a\r\n\r\n";
+const ASK_FIRST: &[u8] = b"GET /recordings/1 HTTP/1.1\r\nHost: a\r\n\r\n";
+
+const ASK_NINTH: &[u8] = b"GET /recordings/9 HTTP/1.1\r\nHost: a\r\n\r\n";
+
+const FOUND: &[u8] =
+    b"HTTP/1.1 200 OK\r\nContent-Type: application/json\r\nContent-Length: 39\r\n\r\n{\"frames\":4,\"id\":1,\"sample_peak\":16384}";
+
+const MISSING: &[u8] =
+    b"HTTP/1.1 404 Not Found\r\nContent-Type: application/json\r\nContent-Length: 24\r\n\r\n{\"error\":\"no-recording\"}";
 
 /// A piece of an input or of an output.
 #[derive(Clone, Copy, Debug)]
@@ -58,9 +66,12 @@ enum Piece {
     Import,
     TwoChannels,
     CutImport,
-    Question,
+    AskFirst,
+    AskNinth,
     First,
     Second,
+    Found,
+    Missing,
     Broken,
     Frame,
     Size,
@@ -77,9 +88,12 @@ impl Piece {
             Import => IMPORT,
             TwoChannels => TWO_CHANNELS,
             CutImport => CUT_IMPORT,
-            Question => QUESTION,
+            AskFirst => ASK_FIRST,
+            AskNinth => ASK_NINTH,
             First => FIRST,
             Second => SECOND,
+            Found => FOUND,
+            Missing => MISSING,
             Broken => BROKEN,
             Frame => FRAME,
             Size => SIZE,
@@ -203,18 +217,16 @@ fn outcome_of(
 #[test]
 fn answers_and_statuses(rt: HostRuntime) -> Result<(), Fail> {
     let alloc = rt.alloc();
-    for (input, fault, output, status) in [
-        ([Import, Nothing], Fault::Nowhere, [First, Nothing], 0),
-        ([TwoChannels, Import], Fault::Nowhere, [Broken, First], 0),
-        ([Import, Import], Fault::Nowhere, [First, Second], 0),
-        ([Import, CutImport], Fault::Nowhere, [First, Frame], 2),
-        ([Nothing, Nothing], Fault::Nowhere, [Nothing, Nothing], 0),
-        ([Question, Nothing], Fault::Nowhere, [Frame, Nothing], 2),
-        ([Import, Nothing], Fault::Keeper(1), [Nothing, Nothing], 6),
-        ([Import, Import], Fault::Keeper(2), [NoKeeper, First], 0),
-        ([Import, Nothing], Fault::Vault(1), [NoVault, Nothing], 0),
-        ([Import, Nothing], Fault::Source(1), [Nothing, Nothing], 3),
-        ([Import, Nothing], Fault::Sink(1), [Nothing, Nothing], 4),
+    for (input, output, status) in [
+        ([Import, Nothing], [First, Nothing], 0),
+        ([TwoChannels, Import], [Broken, First], 0),
+        ([Import, Import], [First, Second], 0),
+        ([Import, CutImport], [First, Frame], 2),
+        ([Nothing, Nothing], [Nothing, Nothing], 0),
+        ([Import, AskFirst], [First, Found], 0),
+        ([AskFirst, Import], [Missing, First], 0),
+        ([TwoChannels, AskFirst], [Broken, Missing], 0),
+        ([Import, AskNinth], [First, Missing], 0),
     ] {
         let bytes = joined(alloc, input.as_slice())?;
         let want = joined(alloc, output.as_slice())?;
@@ -223,14 +235,92 @@ fn answers_and_statuses(rt: HostRuntime) -> Result<(), Fail> {
             repeated(alloc, "session", 1)?,
             bytes,
             Tables::empty(alloc),
+            Fault::Nowhere,
+        )?;
+        assert_eq!(rt; got.status, status, "at {input:?}");
+        assert_eq!(rt; got.sink.written(), want.as_slice(), "at {input:?}");
+    }
+    Ok(())
+}
+
+// After each fault: the output, the status, the number of the next recording, and whether takes 1 and
+// 2 are held. The first read takes the whole input.
+#[test]
+fn stands_after_faults(rt: HostRuntime) -> Result<(), Fail> {
+    let alloc = rt.alloc();
+    for (second, fault, output, status, next, held) in [
+        (
+            Import,
+            Fault::Keeper(1),
+            [Nothing, Nothing],
+            6,
+            1,
+            [false, false],
+        ),
+        (
+            Import,
+            Fault::Keeper(2),
+            [NoKeeper, First],
+            0,
+            2,
+            [true, false],
+        ),
+        (
+            Import,
+            Fault::Vault(1),
+            [NoVault, First],
+            0,
+            2,
+            [true, false],
+        ),
+        (
+            Import,
+            Fault::Source(1),
+            [Nothing, Nothing],
+            3,
+            1,
+            [false, false],
+        ),
+        (
+            Import,
+            Fault::Source(2),
+            [First, Second],
+            3,
+            3,
+            [true, true],
+        ),
+        (
+            CutImport,
+            Fault::Source(2),
+            [First, Nothing],
+            3,
+            2,
+            [true, false],
+        ),
+        (
+            Import,
+            Fault::Sink(1),
+            [Nothing, Nothing],
+            4,
+            2,
+            [true, false],
+        ),
+        (Import, Fault::Sink(2), [First, Nothing], 4, 3, [true, true]),
+    ] {
+        let mut got = outcome_of(
+            alloc,
+            repeated(alloc, "session", 1)?,
+            joined(alloc, [Import, second].as_slice())?,
+            Tables::empty(alloc),
             fault,
         )?;
-        assert_eq!(rt; got.status, status, "at {input:?}, {fault:?}");
-        assert_eq!(rt;
-            got.sink.written(),
-            want.as_slice(),
-            "at {input:?}, {fault:?}"
-        );
+        let want = joined(alloc, output.as_slice())?;
+        assert_eq!(rt; got.status, status, "at {fault:?}");
+        assert_eq!(rt; got.sink.written(), want.as_slice(), "at {fault:?}");
+        let tables = got.keeper.load()?;
+        assert_eq!(rt; tables.next_recording, next, "at {fault:?}");
+        assert_eq!(rt; got.vault.get(1)?.is_some(), held[0], "at {fault:?}");
+        assert_eq!(rt; got.vault.get(2)?.is_some(), held[1], "at {fault:?}");
     }
     Ok(())
 }

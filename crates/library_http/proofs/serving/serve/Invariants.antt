@@ -10,8 +10,8 @@ invariant-requests g l =
     (l.answered + length l.rest ≤ length l.fn.input)
     × ((start : State) → Keeps l.fn.library start → Progress start l.fn.input l.rest l.answered
     (g.K.Sink.written l.fn.sink) (g.K.Sink.written l.sink)
-    (world l.fn.library (g.D.Keeper.tables l.fn.keeper) (g.V.Vault.blobs l.fn.vault) (g.D.Keeper.faults l.fn.keeper) (g.V.Vault.faults l.fn.vault))
-    (world l.library (g.D.Keeper.tables l.keeper) (g.V.Vault.blobs l.vault) (g.D.Keeper.faults l.keeper) (g.V.Vault.faults l.vault)))
+    (world l.fn.library (g.D.Keeper.tables l.fn.keeper) (g.V.Vault.blobs l.fn.vault) (g.D.Keeper.faults l.fn.keeper) (g.V.Vault.faults l.fn.vault) (g.V.Vault.calls l.fn.vault))
+    (world l.library (g.D.Keeper.tables l.keeper) (g.V.Vault.blobs l.vault) (g.D.Keeper.faults l.keeper) (g.V.Vault.faults l.vault) (g.V.Vault.calls l.vault)))
     × (g.K.Sink.faults l.fn.sink ≤ g.K.Sink.faults l.sink)
     × (g.D.Keeper.faults l.fn.keeper ≤ g.D.Keeper.faults l.keeper)
     × (g.V.Vault.faults l.fn.vault ≤ g.V.Vault.faults l.vault)

@@ -14,8 +14,8 @@ returns-in-Ok-clause-runs g c = λ words is.
         record {
           empty = opened_empty _ c.in-Ok.library c.in-Ok.ensures.begins c.in-Ok.ensures.opens;
           opened = seen (g.S.Source.left c.args.source.now) (g.K.Sink.written c.args.sink.now) (g.D.Keeper.tables c.open.new.keeper)
-              (g.V.Vault.blobs c.args.vault.now) (g.D.Keeper.faults c.open.new.keeper) (g.V.Vault.faults c.args.vault.now);
-          opens = record { left = refl; tables = c.in-Ok.ensures.tables; blobs = refl; keeper_faults = c.in-Ok.ensures.later; vault_faults = refl };
+              (g.V.Vault.blobs c.args.vault.now) (g.D.Keeper.faults c.open.new.keeper) (g.V.Vault.faults c.args.vault.now) (g.V.Vault.calls c.args.vault.now);
+          opens = record { left = refl; tables = c.in-Ok.ensures.tables; blobs = refl; keeper_faults = c.in-Ok.ensures.later; vault_faults = refl; vault_calls = refl };
           unwritten = refl;
           library = c.in-Ok.library;
           keeps = c.in-Ok.ensures.begins;
@@ -36,6 +36,7 @@ returns-in-Err-KeeperFault-clause-runs g c = λ words is. (
       blobs = refl;
       keeper_faults = c.open.ensures.later;
       vault_faults = refl;
+      vault_calls = refl;
     },
     refl,
     refl,
@@ -53,6 +54,7 @@ returns-in-Err-BadRow-clause-runs g c = λ words is. (
       blobs = refl;
       keeper_faults = c.open.ensures.later;
       vault_faults = refl;
+      vault_calls = refl;
     },
     bad_opened _ _ _ c.in-Err-BadRow.field-0-is c.in-Err-BadRow.ensures.opens,
     c.print_bad_row.ensures.prints,
@@ -70,6 +72,7 @@ returns-in-Err-Memory-clause-runs g c = λ words is. (
       blobs = refl;
       keeper_faults = c.open.ensures.later;
       vault_faults = refl;
+      vault_calls = refl;
     },
     refl,
     refl,

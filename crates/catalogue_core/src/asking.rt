@@ -1,0 +1,45 @@
+//! Answering a question.
+ghost use Rattle.std.specs.Prelude.{◌≡◌, ◌==◌, IfOk, option_copied};
+ghost use Rattle.std.specs.List.{find};
+ghost use Rattle.library_model.specs.Machine.{question_reply};
+ghost use Rattle.library_model.specs.State.{State};
+ghost use Rattle.catalogue_core.specs.Asking.{row_reply};
+ghost use Rattle.catalogue_core.specs.Kept.{Keeps};
+
+use crate::Library;
+use crate::importing::SAMPLE_UNIT;
+use crate::reply_texts::{describe_recording, refuse};
+use keeper_store::{RecordingRow, Vault};
+use lib_base::{Memory, Summary};
+use library_model::{Question, Reply};
+
+/// Answers a question from the rows that the library keeps. It makes no call of the vault, which
+/// waits for questions after files.
+pub fn ask<V: Vault>(library: &Library, question: &Question, vault: &mut V) -> Result<Reply, Memory>
+    ensures answers { (s : State) → Keeps library.now s → IfOk result (λ reply. reply ≡ question_reply s question.now) }
+    ensures vault { vault.new ≡ vault.old }
+{
+    match question {
+        Question::Recording(id) => ask_recording(library, *id),
+    }
+}
+
+/// Answers a question after the recording of an id.
+fn ask_recording(library: &Library, id: u32) -> Result<Reply, Memory>
+    ensures { IfOk result (λ reply. reply ≡ row_reply (find (λ (row : RecordingRow). row.id == id) library.now.recordings.items)) }
+{
+    match row_of(library.recordings.as_slice(), id) {
+        Some(row) => {
+            let Summary { frames, peak, .. } = row.summary;
+            describe_recording(library.alloc, 200, frames, row.id, peak / SAMPLE_UNIT)
+        }
+        None => refuse(library.alloc, 404, "no-recording"),
+    }
+}
+
+/// The row of an id.
+fn row_of(rows: &[RecordingRow], id: u32) -> Option<&RecordingRow>
+    ensures { option_copied result ≡ find (λ (row : RecordingRow). row.id == id) rows.now }
+{
+    rows.iter().find(|row| row.id == id)
+}
