@@ -3,6 +3,7 @@ pub mod LevelLaws
 pub mod LevelTable
 pub mod PeakRows
 pub mod RangeLaws
+pub mod SummaryLaws
 pub mod WeightedRows
 mod WorkedLevels
 mod WorkedRanges

@@ -1,4 +1,5 @@
--- Blocks of 400 ms and windows of 3 s, one from each segment on (BS.1770-4 Annex 1, EBU Tech 3341).
+-- Blocks of 400 ms and windows of 3 s, one from each segment on (BS.1770-4 Annex 1, EBU Tech 3341; the step of 100 ms for the windows
+-- of a range is the library's own).
 use Rattle.std.specs.Prelude.{ℕ, List, [], ◌∷◌, length, sum, take, nat_le, if◌then◌else◌}
 
 -- the sums of so many neighbours, one for each place that has enough from it on

@@ -43,7 +43,8 @@ abbrev pub IsPlaceWithin : ℕ → ℕ → ℤ → ℕ → Type 0
 IsPlaceWithin a b (pos n) place = entry place * b * 10 ^ n ≤ a * 10 ^ 9
 IsPlaceWithin a b (negsuc n) place = entry place * b ≤ a * 10 ^ 9 * 10 ^ (n + 1)
 
--- The level of a/b is 2000 times the greatest power of ten within it, and the greatest place within it at that power.
+-- The level of a/b is 2000 * q + k, where 10^q is the greatest power of ten within a/b, and k the greatest place within it at that
+-- power.
 pub record IsLevel (a b : ℕ) (level : ℤ) : Type 0 where
   pub power : ℤ
   pub place : ℕ
@@ -63,6 +64,6 @@ abbrev pub held_to_buckets : ℤ → ℕ
 held_to_buckets (pos n) = min n 1023
 held_to_buckets (negsuc n) = 0
 
--- the bucket of a level: a tenth of a decibel wide, the first one with all below -69.9 dB
+-- the bucket of a level: a tenth of a decibel wide, the first one with all below -69.9 dB, the last one with all from 32.3 dB on
 unfoldable pub bucket_of : ℤ → ℕ
 bucket_of level = held_to_buckets (int_div_euclid (level +ℤ pos 14000) (pos 20))

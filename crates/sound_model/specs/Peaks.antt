@@ -1,19 +1,22 @@
--- The true peak, in units of 2^-36 of full scale (BS.1770-4 Annex 2; the filter in whole 8192ths is a profile of it).
-use Rattle.std.specs.Prelude.{◌+◌, ◌-◌, ◌*◌, ◌^◌, ℕ, zero, suc, ℤ, pos, negsuc, ◌+ℤ◌, ◌*ℤ◌, List, [], ◌∷◌, reverse, slice_index_or, max, unsigned_abs, nat_le, if◌then◌else◌}
+-- The peak, in units of 2^-36 of full scale (BS.1770-4 Annex 2; the filter in whole 8192ths is a profile of it, and its run of 11 places
+-- past the end and the size of the sample itself are the library's own).
+use Rattle.std.specs.Prelude.{◌+◌, ◌-◌, ◌*◌, ◌^◌, ℕ, zero, suc, ℤ, pos, neg_ℤ, ◌+ℤ◌, ◌*ℤ◌, List, [], ◌∷◌, reverse, slice_index_or, max, unsigned_abs, nat_le, if◌then◌else◌}
 
--- the taps of the first two phases, in 8192ths
+-- the taps of the first phase, in 8192ths
 abbrev pub first_phase : List ℤ
 first_phase =
-    pos 14 ∷ pos 90 ∷ negsuc 160 ∷ pos 272 ∷ negsuc 486 ∷ pos 1125 ∷ pos 7964 ∷ negsuc 837 ∷ pos 390 ∷ negsuc 217 ∷ pos 122 ∷ negsuc 67 ∷ []
+    pos 14 ∷ pos 90 ∷ neg_ℤ (pos 161) ∷ pos 272 ∷ neg_ℤ (pos 487) ∷ pos 1125 ∷ pos 7964 ∷ neg_ℤ (pos 838) ∷ pos 390 ∷ neg_ℤ (pos 218) ∷ pos 122 ∷ neg_ℤ (pos 68) ∷ []
 
+-- the taps of the second phase, in 8192ths
 abbrev pub second_phase : List ℤ
 second_phase =
-    negsuc 238 ∷ pos 240 ∷ negsuc 423 ∷ pos 730 ∷ negsuc 1363 ∷ pos 3810 ∷ pos 6388 ∷ negsuc 1640 ∷ pos 832 ∷ negsuc 476 ∷ pos 271 ∷ negsuc 154 ∷ []
+    neg_ℤ (pos 239) ∷ pos 240 ∷ neg_ℤ (pos 424) ∷ pos 730 ∷ neg_ℤ (pos 1364) ∷ pos 3810 ∷ pos 6388 ∷ neg_ℤ (pos 1641) ∷ pos 832 ∷ neg_ℤ (pos 477) ∷ pos 271 ∷ neg_ℤ (pos 155) ∷ []
 
--- the third and the fourth phase are the second and the first one reversed
+-- the third phase is the second one reversed
 abbrev pub third_phase : List ℤ
 third_phase = reverse second_phase
 
+-- the fourth phase is the first one reversed
 abbrev pub fourth_phase : List ℤ
 fourth_phase = reverse first_phase
 

@@ -3,7 +3,7 @@ use Rattle.std.specs.Prelude.{◌≡◌, ◌+◌, ◌-◌, ◌*◌, ◌/◌, ◌
 use Rattle.sound_model.specs.Levels.{IsLevel, hundredths}
 use Rattle.sound_model.specs.Loudness.{full_power}
 
--- a window is at -70 LUFS or above
+-- a window is at -70 LUFS or above: 125/180 is 25/36
 unfoldable pub is_window_audible : ℕ → Bool
 is_window_audible energy = nat_le (180 * full_power) (125 * 10 ^ 7 * energy)
 

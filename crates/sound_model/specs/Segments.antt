@@ -20,7 +20,8 @@ first_segments (suc count) values = first_segments count values ++ segment_energ
 abbrev pub segments_of : List ℤ → List ℕ
 segments_of values = first_segments (length values / 4800) values
 
--- the weights of the channels, in hundredths: 1.41 for those at the back, none for low frequencies (BS.1770-4 Annex 1 table 3)
+-- the weights of the channels, in hundredths: 1.41 for those at the back, none for low frequencies (BS.1770-4 Annex 1 table 3). The
+-- channels stand as left, right, center, low frequencies, back left, back right, less those that are not there (RFC 9639 section 9.1.3).
 abbrev pub weights : ℕ → List ℕ
 weights channels =
     if channels == 1 then 100 ∷ []
@@ -34,9 +35,9 @@ weights channels =
 -- the energy of a segment over channels, each with its weight
 abbrev pub energy_over : ℕ → List ℕ → List (List ℤ) → ℕ → ℕ
 energy_over depth [] lists j = 0
-energy_over depth (weight ∷ weights) [] j = 0
-energy_over depth (weight ∷ weights) (samples ∷ lists) j =
-    weight * segment_energy (weighted depth samples) j + energy_over depth weights lists j
+energy_over depth (weight ∷ others) [] j = 0
+energy_over depth (weight ∷ others) (samples ∷ lists) j =
+    weight * segment_energy (weighted depth samples) j + energy_over depth others lists j
 
 -- the energies of the first so many segments of a sound
 abbrev pub first_energies : ℕ → ℕ → List (List ℤ) → List ℕ

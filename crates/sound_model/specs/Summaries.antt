@@ -19,7 +19,7 @@ measured depth frames lists = record {
   peak = peak_of depth frames lists;
 }
 
--- the true peak of a peak, in hundredths of dBTP
+-- the true peak level of a peak, in hundredths of dBTP
 pub record IsPeakLevel (peak : ℕ) (true_peak : ℤ) : Type 0 where
   pub level : ℤ
   pub of_ratio : IsLevel (peak ^ 2) (2 ^ 72) level

@@ -1,4 +1,4 @@
--- How levels and peaks are written.
+-- How levels and peaks are written. That a peak is rounded up in its sixth decimal is the library's own.
 use Rattle.std.specs.Prelude.{◌+◌, ◌-◌, ◌*◌, ◌/◌, ◌%◌, ◌^◌, ℕ, zero, suc, ℤ, pos, negsuc, List, [], ◌∷◌, ◌++◌, codes, decimal, unsigned_abs}
 
 -- the last so many decimal digits of a number
