@@ -49,6 +49,7 @@ fn two_channels_are_read(rt: HostRuntime) -> Result<(), Fail> {
     let sound = pcm(rt.alloc(), bytes, &wave)?;
     let mut scratch = Scratch::new(rt.alloc(), 0)?;
     for (channel, want) in [(0usize, [0, -16_384]), (1, [16_384, 1])] {
+        assert!(rt; channel < sound.channels());
         let mut out = [7; 2];
         sound.fill(channel, 0, &mut out, &mut scratch);
         assert_eq!(rt; out, want, "channel {channel}");
