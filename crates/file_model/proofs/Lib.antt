@@ -1,3 +1,4 @@
+pub mod Interleaving
 pub mod Readings
 pub mod Rows
 pub mod Samples

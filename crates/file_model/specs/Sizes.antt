@@ -9,3 +9,8 @@ size_of sample = unsigned_abs sample
 abbrev pub greatest_size : List ℤ → ℕ
 greatest_size [] = 0
 greatest_size (sample ∷ samples) = max (size_of sample) (greatest_size samples)
+
+-- the greatest size over channels
+abbrev pub greatest_over : List (List ℤ) → ℕ
+greatest_over [] = 0
+greatest_over (samples ∷ lists) = max (greatest_size samples) (greatest_over lists)

@@ -1,28 +1,34 @@
 //! The head of a canonical wave.
-ghost use Rattle.std.specs.Prelude.{◌≡◌, ◌≤◌, ◌<◌, ◌+◌, ◌*◌, ◌-◌, ◌^◌, ◌↔◌, ℕ, ℤ, List, length, IsTrue, MatchBool, MatchOption};
-ghost use Rattle.file_model.specs.Wave.{IsWave, two_bytes, four_bytes};
+ghost use Rattle.std.specs.Prelude.{◌≡◌, ◌≤◌, ◌<◌, ◌+◌, ◌*◌, ◌-◌, ◌^◌, ◌↔◌, ℕ, length, IsTrue, MatchBool, MatchOption};
+ghost use Rattle.file_model.specs.Wave.{two_bytes, four_bytes};
 ghost use Rattle.file_model.specs.Reading.{IsNoWave};
 ghost use Rattle.lib_base.specs.Sounds.{part};
-ghost use Rattle.wave_chunks.specs.Heads.{IsDataLength, HasHead, HasRiffHead, HasFormatHead, HasLayout, HasDataHead};
+ghost use Rattle.wave_chunks.specs.Heads.{IsDataLength, IsWaveOf, IsNoWaveOf, HasHead, HasRiffHead, HasFormatHead, HasLayout, HasDataHead};
 
 /// The format tag of PCM.
 const PCM: u16 = 1;
 
-/// Whether the bytes are a canonical wave.
-pub fn is_canonical(bytes: &[u8]) -> bool
-    ensures { MatchBool result ((samples : List ℤ) × IsWave bytes.now samples) (IsNoWave bytes.now) }
+/// How many channels the canonical wave has that the bytes are, if they are one.
+pub fn channels_of(bytes: &[u8]) -> Option<u16>
+    ensures { MatchOption result (IsNoWave bytes.now) (λ channels. IsWaveOf bytes.now channels) }
 {
     let Some(data_length) = data_length_of(bytes.len()) else {
-        return false;
+        return None;
     };
-    has_head(bytes, data_length)
+    if has_channels(bytes, 1, data_length) {
+        return Some(1);
+    }
+    if has_channels(bytes, 2, data_length) {
+        return Some(2);
+    }
+    None
 }
 
-/// How many bytes the samples take in a canonical wave of `count` bytes, if there is such a wave.
+/// How many bytes follow the head in a canonical wave of `count` bytes, if there can be such a wave.
 fn data_length_of(count: usize) -> Option<u32>
     ensures { MatchOption result ((n : ℕ) → ¬ IsDataLength count n) (λ n. IsDataLength count n) }
 {
-    if count < 44 || count % 2 != 0 {
+    if count < 44 {
         return None;
     }
     match u32::try_from(count - 8) {
@@ -31,15 +37,29 @@ fn data_length_of(count: usize) -> Option<u32>
     }
 }
 
-/// Whether the head is that of a canonical wave with so many bytes of samples.
-fn has_head(bytes: &[u8], data_length: u32) -> bool
+/// Whether the bytes are a canonical wave of so many channels.
+fn has_channels(bytes: &[u8], channels: u16, data_length: u32) -> bool
+    requires some { 1 ≤ channels }
+    requires few { channels ≤ 2 }
+    requires is_length { IsDataLength (length bytes.now) data_length }
+    ensures { MatchBool result (IsWaveOf bytes.now channels) (IsNoWaveOf bytes.now channels) }
+{
+    if data_length % (2 * u32::from(channels)) != 0 {
+        return false;
+    }
+    has_head(bytes, channels, data_length)
+}
+
+/// Whether the head is that of a canonical wave with so many channels and bytes of samples.
+fn has_head(bytes: &[u8], channels: u16, data_length: u32) -> bool
+    requires few { channels ≤ 2 }
     requires long { 44 ≤ length bytes.now }
     requires short { 36 + data_length < 2 ^ 32 }
-    ensures { IsTrue result ↔ HasHead bytes.now data_length }
+    ensures { IsTrue result ↔ HasHead bytes.now channels data_length }
 {
     has_riff_head(bytes, 36 + data_length)
         && has_format_head(bytes)
-        && has_layout(bytes)
+        && has_layout(bytes, channels)
         && has_data_head(bytes, data_length)
 }
 
@@ -61,15 +81,16 @@ fn has_format_head(bytes: &[u8]) -> bool
         && has_short(bytes, 20, PCM)
 }
 
-/// Whether there is 1 channel at 48,000 Hz, with 2 bytes a frame and 16 bits a sample. The byte rate
-/// is not consulted.
-fn has_layout(bytes: &[u8]) -> bool
-    requires { 44 ≤ length bytes.now }
-    ensures { IsTrue result ↔ HasLayout bytes.now }
+/// Whether there are so many channels at 48,000 Hz, with 2 bytes a sample in a frame and 16 bits a
+/// sample. The byte rate is not consulted.
+fn has_layout(bytes: &[u8], channels: u16) -> bool
+    requires few { channels ≤ 2 }
+    requires long { 44 ≤ length bytes.now }
+    ensures { IsTrue result ↔ HasLayout bytes.now channels }
 {
-    has_short(bytes, 22, 1)
+    has_short(bytes, 22, channels)
         && has_number(bytes, 24, 48_000)
-        && has_short(bytes, 32, 2)
+        && has_short(bytes, 32, 2 * channels)
         && has_short(bytes, 34, 16)
 }
 

@@ -1,8 +1,9 @@
 //! The samples of a wave file, copied.
-ghost use Rattle.std.specs.Prelude.{◌≡◌, ◌≤◌, ◌<◌, ◌^◌, ◌/◌, ℤ, List, [], ◌∷◌, length, map, All, IfOk};
+ghost use Rattle.std.specs.Prelude.{◌≡◌, ◌<◌, ◌*◌, ◌/◌, length, map, IfOk};
 ghost use Rattle.std.specs.Int.{w16, cast_signed, from_le_bytes};
 ghost use Rattle.std.specs.Simd.{first_chunks};
-ghost use Rattle.lib_base.specs.Sounds.{IsSample};
+ghost use Rattle.file_model.specs.Channels.{channel_samples, first_channels};
+ghost use Rattle.file_model.specs.Pcm.{Pcm};
 ghost use Rattle.file_model.specs.Wave.{IsWave};
 ghost use Rattle.wave_chunks.specs.Answers.{IsReadOf};
 
@@ -10,30 +11,59 @@ use crate::Wave;
 use lib_base::{Memory, PcmSound, Sound};
 use std::alloc::Global;
 
-/// Copies the samples of a wave file, as a sound of one channel.
+/// Copies the samples of a wave file, as a sound.
 pub fn pcm(alloc: Global, bytes: &[u8], wave: &Wave) -> Result<PcmSound, Memory>
     requires { IsReadOf bytes.now wave.now }
-    ensures lists { IfOk result (λ sound. (samples : List ℤ) → IsWave bytes.now samples
-        → ⟦<PcmSound as Sound>⟧.lists sound ≡ samples ∷ []) }
-    ensures depth { IfOk result (λ sound. ⟦<PcmSound as Sound>⟧.depth sound ≡ wave.now.depth) }
-    ensures frames { IfOk result (λ sound. ⟦<PcmSound as Sound>⟧.frames sound ≡ wave.now.frames) }
+    ensures lists { IfOk result (λ copy. (sound : Pcm) → IsWave bytes.now sound
+        → ⟦<PcmSound as Sound>⟧.lists copy ≡ sound.lists) }
+    ensures depth { IfOk result (λ copy. ⟦<PcmSound as Sound>⟧.depth copy ≡ wave.now.depth) }
+    ensures frames { IfOk result (λ copy. ⟦<PcmSound as Sound>⟧.frames copy ≡ wave.now.frames) }
 {
     let samples = samples_of(alloc, bytes.split_at(wave.samples().start).1)?;
-    let sound = one_channel(alloc, samples)?;
-    Ok(sound)
+    let channels = split(
+        alloc,
+        samples.as_slice(),
+        wave.channels() as usize,
+        wave.frames() as usize,
+    )?;
+    Ok(PcmSound::new(wave.depth(), channels))
 }
 
-/// The sound of one channel that has these samples of 16 bits.
-fn one_channel(alloc: Global, samples: Vec<i32>) -> Result<PcmSound, Memory>
-    requires within { All (IsSample 16) samples.items }
-    requires short { length samples.items < 2 ^ 60 }
-    ensures lists { IfOk result (λ sound. ⟦<PcmSound as Sound>⟧.lists sound ≡ samples.items ∷ []) }
-    ensures depth { IfOk result (λ sound. ⟦<PcmSound as Sound>⟧.depth sound ≡ 16) }
-    ensures frames { IfOk result (λ sound. ⟦<PcmSound as Sound>⟧.frames sound ≡ length samples.items) }
+/// The channels of samples that stand frame by frame.
+fn split(
+    alloc: Global,
+    samples: &[i32],
+    channels: usize,
+    frames: usize,
+) -> Result<Vec<Vec<i32>>, Memory>
+    requires { length samples.now ≡ channels * frames }
+    ensures { IfOk result (λ lists. map (λ v. v.items) lists.items ≡ first_channels channels channels frames samples.now) }
 {
-    let mut channels = Vec::new(alloc);
-    channels.push(samples)?;
-    Ok(PcmSound::new(16, channels))
+    let mut lists = Vec::new(alloc);
+    for channel in 0..channels {
+        lists.push(channel_of(alloc, samples, channels, channel, frames)?)?;
+    }
+    Ok(lists)
+}
+
+/// One channel of samples that stand frame by frame.
+#[tactic(auto, using(file_model::proofs::Interleaving::place_before))]
+fn channel_of(
+    alloc: Global,
+    samples: &[i32],
+    channels: usize,
+    channel: usize,
+    frames: usize,
+) -> Result<Vec<i32>, Memory>
+    requires whole { length samples.now ≡ channels * frames }
+    requires channel { channel < channels }
+    ensures { IfOk result (λ own. own.items ≡ channel_samples channels channel frames samples.now) }
+{
+    let mut own = Vec::with_capacity(alloc, frames)?;
+    for frame in 0..frames {
+        own.push(samples[channels * frame + channel])?;
+    }
+    Ok(own)
 }
 
 /// The samples that bytes hold, two bytes each.

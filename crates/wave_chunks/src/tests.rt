@@ -8,6 +8,10 @@ use std::test::Fail;
 const FOUR: [u8; 52] =
     *b"RIFF\x2c\0\0\0WAVEfmt \x10\0\0\0\x01\0\x01\0\x80\xbb\0\0\0\x77\x01\0\x02\0\x10\0data\x08\0\0\0\0\0\0\x40\0\xc0\x01\0";
 
+/// A wave of two channels: 0 and -16384 on the left, 16384 and 1 on the right.
+const TWO: [u8; 52] =
+    *b"RIFF\x2c\0\0\0WAVEfmt \x10\0\0\0\x01\0\x02\0\x80\xbb\0\0\0\xee\x02\0\x04\0\x10\0data\x08\0\0\0\0\0\0\x40\0\xc0\x01\0";
+
 /// A wave of no samples.
 const NONE: [u8; 44] =
     *b"RIFF\x24\0\0\0WAVEfmt \x10\0\0\0\x01\0\x01\0\x80\xbb\0\0\0\x77\x01\0\x02\0\x10\0data\0\0\0\0";
@@ -38,6 +42,22 @@ fn four_samples_are_read(rt: HostRuntime) -> Result<(), Fail> {
 }
 
 #[test]
+fn two_channels_are_read(rt: HostRuntime) -> Result<(), Fail> {
+    let bytes = TWO.as_slice();
+    let wave = read(bytes)?;
+    assert_eq!(rt; (wave.channels(), wave.frames()), (2, 2));
+    let sound = pcm(rt.alloc(), bytes, &wave)?;
+    let mut scratch = Scratch::new(rt.alloc(), 0)?;
+    for (channel, want) in [(0usize, [0, -16_384]), (1, [16_384, 1])] {
+        assert!(rt; channel < sound.channels());
+        let mut out = [7; 2];
+        sound.fill(channel, 0, &mut out, &mut scratch);
+        assert_eq!(rt; out, want, "channel {channel}");
+    }
+    Ok(())
+}
+
+#[test]
 fn a_wave_of_no_samples_is_read(rt: HostRuntime) -> Result<(), Fail> {
     let wave = read(NONE.as_slice())?;
     assert_eq!(rt; wave.frames(), 0);
@@ -63,7 +83,8 @@ fn each_wrong_field_is_refused(rt: HostRuntime) {
         (12, b'F', "the name of the format chunk"),
         (16, 18, "the size of the format chunk"),
         (20, 3, "the tag"),
-        (22, 2, "the channels"),
+        (22, 2, "two channels with the frame of one"),
+        (22, 3, "three channels"),
         (24, 0x44, "the rate"),
         (32, 4, "the bytes of a frame"),
         (34, 24, "the bits of a sample"),

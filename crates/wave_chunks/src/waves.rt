@@ -2,7 +2,7 @@
 ghost use Rattle.std.specs.Prelude.{◌≡◌, IfOk, IfErr};
 ghost use Rattle.wave_chunks.specs.Answers.{IsReadOf, IsRefusalOf};
 
-use crate::heads::is_canonical;
+use crate::heads::channels_of;
 use lib_base::{Broken, Refused, Rule, Span};
 use std::marker::Model;
 
@@ -76,19 +76,19 @@ pub fn read(bytes: &[u8]) -> Result<Wave, Refused>
     ensures ok { IfOk result (λ wave. IsReadOf bytes.now wave) }
     ensures err { IfErr result (λ refused. IsRefusalOf bytes.now refused) }
 {
-    if !is_canonical(bytes) {
+    let Some(channels) = channels_of(bytes) else {
         return Err(Refused::Broken(Broken {
             rule: Rule::K(0),
             place: 0,
         }));
-    }
+    };
     let samples = Span {
         start: HEAD,
         end: bytes.len(),
     };
-    let frames = (bytes.len() - HEAD) as u64 / 2;
+    let frames = (bytes.len() - HEAD) as u64 / (2 * u64::from(channels));
     Ok(Wave {
-        channels: 1,
+        channels: u32::from(channels),
         depth: 16,
         frames,
         samples,
