@@ -1,23 +1,26 @@
 -- What staging answers is what the machine decides.
-use Rattle.std.proofs.Common.{◌≡◌, ◌≢◌, ◌<◌, ◌||◌, ℕ, Bool, true, false, nat_le, List, refl, sym, ap, ◌∙◌, arith, if◌then◌else◌, inl, inr}
+use Rattle.std.proofs.Common.{◌≡◌, ◌≢◌, ◌<◌, ◌||◌, ◌*◌, ◌/◌, ℕ, Bool, true, false, nat_le, List, refl, sym, ap, ◌∙◌, arith, if◌then◌else◌, inl, inr}
 use Rattle.std.proofs.lemmas.Bool.Decides.{nat_tests}
-use Rattle.std.specs.Prelude.{ℤ}
 use Rattle.lib_base.specs.declared.outcomes.Rule.{Rule}
 use Rattle.lib_base.specs.Faults.{Rose}
-use Rattle.file_model.specs.Reading.{Reads, accepted, broken}
+use Rattle.lib_base.specs.declared.files.Summary.{Summary}
+use Rattle.file_model.specs.Pcm.{Pcm}
+use Rattle.file_model.specs.Reading.{Reads, accepted}
+use Rattle.file_model.specs.Sizes.{greatest_over}
+use Rattle.library_model.specs.Findings.{IsSummaryOf, Finds, measured, broken_by}
 use Rattle.library_model.specs.declared.messages.Command.TheVariants.{Import}
 use Rattle.library_model.specs.declared.messages.Reply.{Reply}
 use Rattle.library_model.specs.declared.messages.Request.{Request}
 use Rattle.library_model.specs.Machine.{recording_reply, new_recording, imported, import_verdict, stays, accepts, as_decided, vault_failed}
-use Rattle.library_model.specs.Replies.{format_refusal, ids_refusal, vault_refusal}
+use Rattle.library_model.specs.Replies.{json, recording_text, format_refusal, ids_refusal, vault_refusal}
 use Rattle.library_model.specs.Stands.{tables_of}
 use Rattle.library_model.specs.State.{State, IsValid, numbers_end}
 use Rattle.library_model.proofs.Imports.{imported-IsValid, tables_of-imported, HoldsFiles-imported}
-use Rattle.catalogue_core.specs.declared.examining.Levels.{Levels}
+use Rattle.catalogue_core.specs.declared.measures.Measure.{Measure}
 use Rattle.catalogue_core.specs.declared.prepared.Prepared.{Prepared}
 use Rattle.catalogue_core.specs.declared.prepared.Staged.{Staged}
 use Rattle.catalogue_core.specs.declared.prepared.Staged.TheVariants.{Refused, Ready}
-use Rattle.catalogue_core.specs.Examining.{AreLevelsOf}
+use Rattle.catalogue_core.specs.Examining.{IsMeasureOf}
 use Rattle.catalogue_core.specs.Imports.{lacks_numbers, PreparesImport, StagesAccepted}
 use Rattle.catalogue_core.specs.Staging.{Prepares, RefusesBy, StagedFrom}
 
@@ -31,13 +34,13 @@ other_status reply status other is differs e = differs (sym is ∙ e)
 
 -- the import of a broken file is refused by its rule
 pub RefusesBy-broken : (s : State) (file : List ℕ) (rule : Rule) (place : ℕ) (reply : Reply) (before now : ℕ)
-    → Reads file (broken rule place) → reply ≡ format_refusal rule place → RefusesBy s (import_of file) reply before now
+    → Finds file (broken_by rule place) → reply ≡ format_refusal rule place → RefusesBy s (import_of file) reply before now
 RefusesBy-broken s file rule place reply before now reads is =
     let status : reply.status ≡ 422 = ap (λ (r : Reply). r.status) is in
     record {
       answers = record {
         way = as_decided (stays (format_refusal rule place));
-        answers = ((broken rule place, reads, refl), is, refl);
+        answers = ((broken_by rule place, reads, refl), is, refl);
       };
       vault = λ e. absurd (other_status reply 422 502 status (omega arith) e);
       keeper = other_status reply 422 504 status (omega arith);
@@ -45,25 +48,25 @@ RefusesBy-broken s file rule place reply before now reads is =
     }
 
 -- with no number left the import is refused, and else it is accepted
-import_verdict-lacks : (s : State) (file : List ℕ) (samples : List ℤ) (lacks : Bool) → lacks_numbers (tables_of s) ≡ lacks
-    → import_verdict s file (accepted samples)
-    ≡ (if lacks then stays ids_refusal else accepts (recording_reply 201 (new_recording s file samples)) (imported s file samples))
-import_verdict-lacks s file samples lacks h =
-    ap (λ b. if b then stays ids_refusal else accepts (recording_reply 201 (new_recording s file samples)) (imported s file samples)) h
+import_verdict-lacks : (s : State) (file : List ℕ) (sound : Pcm) (summary : Summary) (lacks : Bool) → lacks_numbers (tables_of s) ≡ lacks
+    → import_verdict s file (measured sound summary)
+    ≡ (if lacks then stays ids_refusal else accepts (recording_reply 201 (new_recording s file sound summary)) (imported s file sound summary))
+import_verdict-lacks s file sound summary lacks h =
+    ap (λ b. if b then stays ids_refusal else accepts (recording_reply 201 (new_recording s file sound summary)) (imported s file sound summary)) h
 
 -- both numbers are left where none is lacking
 below_end : (a b end : ℕ) → (nat_le end a || nat_le end b) ≡ false → (a < end) × (b < end)
 below_end a b end h = (grind (arith, nat_tests), grind (arith, nat_tests))
 
 -- the import is refused for want of a number
-RefusesBy-ids : (s : State) (file : List ℕ) (samples : List ℤ) (reply : Reply) (before now : ℕ) → Reads file (accepted samples)
+RefusesBy-ids : (s : State) (file : List ℕ) (sound : Pcm) (summary : Summary) (reply : Reply) (before now : ℕ) → Finds file (measured sound summary)
     → lacks_numbers (tables_of s) ≡ true → reply ≡ ids_refusal → RefusesBy s (import_of file) reply before now
-RefusesBy-ids s file samples reply before now reads lacks is =
+RefusesBy-ids s file sound summary reply before now reads lacks is =
     let status : reply.status ≡ 409 = ap (λ (r : Reply). r.status) is in
     record {
       answers = record {
         way = as_decided (stays ids_refusal);
-        answers = ((accepted samples, reads, sym (import_verdict-lacks s file samples true lacks)), is, refl);
+        answers = ((measured sound summary, reads, sym (import_verdict-lacks s file sound summary true lacks)), is, refl);
       };
       vault = λ e. absurd (other_status reply 409 502 status (omega arith) e);
       keeper = other_status reply 409 504 status (omega arith);
@@ -71,45 +74,56 @@ RefusesBy-ids s file samples reply before now reads lacks is =
     }
 
 -- the import is refused for a fault of the vault
-RefusesBy-vault : (s : State) (file : List ℕ) (samples : List ℤ) (reply : Reply) (before now : ℕ) → Reads file (accepted samples)
+RefusesBy-vault : (s : State) (file : List ℕ) (sound : Pcm) (summary : Summary) (reply : Reply) (before now : ℕ) → Finds file (measured sound summary)
     → lacks_numbers (tables_of s) ≡ false → reply ≡ vault_refusal → Rose before now → RefusesBy s (import_of file) reply before now
-RefusesBy-vault s file samples reply before now reads lacks is rose =
+RefusesBy-vault s file sound summary reply before now reads lacks is rose =
     let status : reply.status ≡ 502 = ap (λ (r : Reply). r.status) is in
     record {
       answers = record {
-        way = vault_failed (accepts (recording_reply 201 (new_recording s file samples)) (imported s file samples));
-        answers = ((accepted samples, reads, sym (import_verdict-lacks s file samples false lacks)), tt, is, refl);
+        way = vault_failed (accepts (recording_reply 201 (new_recording s file sound summary)) (imported s file sound summary));
+        answers = ((measured sound summary, reads, sym (import_verdict-lacks s file sound summary false lacks)), tt, is, refl);
       };
       vault = λ _. rose;
       keeper = other_status reply 502 504 status (omega arith);
       memory = other_status reply 502 503 status (omega arith);
     }
 
+-- the size of a sample that a summary's peak stands for
+size_of_peak : (sound : Pcm) (summary : Summary) → IsSummaryOf sound summary → summary.peak / 2097152 ≡ greatest_over sound.lists
+size_of_peak sound summary are = let is = are.size in omega (arith, is)
+
 -- a prepared import is that of the request
-Prepares-import : (s : State) (file : List ℕ) (samples : List ℤ) (levels : Levels) (p : Prepared) → IsValid s
-    → Reads file (accepted samples) → AreLevelsOf samples levels → lacks_numbers (tables_of s) ≡ false
-    → PreparesImport (tables_of s) file levels p → Prepares s (import_of file) p
-Prepares-import s file samples levels p valid reads are lacks prepares =
+Prepares-import : (s : State) (file : List ℕ) (sound : Pcm) (measure : Measure) (p : Prepared) → IsValid s
+    → Reads file (accepted sound) → IsMeasureOf sound measure → lacks_numbers (tables_of s) ≡ false
+    → PreparesImport (tables_of s) file measure p → Prepares s (import_of file) p
+Prepares-import s file sound measure p valid reads are lacks prepares =
+    let summary = measure.summary in
     let left = below_end s.next_recording s.next_take numbers_end lacks in
-    let reply : p.reply ≡ recording_reply 201 (new_recording s file samples) =
-    prepares.reply ∙ (rw (are.frames, are.peak) refl) in
+    let finds : Finds file (measured sound summary) = (reads, are.summary) in
+    let reply : p.reply ≡ recording_reply 201 (new_recording s file sound summary) =
+    prepares.reply
+    ∙ ap (λ (size : ℕ). json 201 (recording_text s.next_recording summary size)) (size_of_peak sound summary are.summary) in
     record {
-      next = imported s file samples;
-      decides = (accepted samples, reads, ap (λ r. accepts r (imported s file samples)) reply ∙ sym (import_verdict-lacks s file samples false lacks));
-      valid = imported-IsValid s file samples valid left.0 left.1 reads;
-      rows = rw (prepares.changes, are.frames, are.peak) (sym (tables_of-imported s file samples));
-      files = λ old new held others put. HoldsFiles-imported s file samples old new valid held others put;
+      next = imported s file sound summary;
+      decides = (
+        measured sound summary,
+        finds,
+        ap (λ r. accepts r (imported s file sound summary)) reply ∙ sym (import_verdict-lacks s file sound summary false lacks),
+      );
+      valid = imported-IsValid s file sound summary valid left.0 left.1 finds;
+      rows = rw (prepares.changes, are.channels, are.depth, are.energies) (sym (tables_of-imported s file sound summary valid));
+      files = λ old new held others put. HoldsFiles-imported s file sound summary old new valid held others put;
       granted = ap (λ (r : Reply). r.status) reply;
     }
 
 -- what staging an accepted file answers is what staging its import answers
-pub StagedFrom-accepted : (s : State) (file : List ℕ) (samples : List ℤ) (levels : Levels) (before now : ℕ) (staged : Staged) → IsValid s
-    → Reads file (accepted samples) → AreLevelsOf samples levels → StagesAccepted (tables_of s) file levels before now staged
+pub StagedFrom-accepted : (s : State) (file : List ℕ) (sound : Pcm) (measure : Measure) (before now : ℕ) (staged : Staged) → IsValid s
+    → Reads file (accepted sound) → IsMeasureOf sound measure → StagesAccepted (tables_of s) file measure before now staged
     → StagedFrom s (import_of file) before now staged
-StagedFrom-accepted s file samples levels before now (Refused reply) valid reads are stages =
+StagedFrom-accepted s file sound measure before now (Refused reply) valid reads are stages =
     elim stages [
-      | inl h ↦ RefusesBy-ids s file samples reply before now reads h.0 h.1
-      | inr h ↦ RefusesBy-vault s file samples reply before now reads h.0 h.1 h.2
+      | inl h ↦ RefusesBy-ids s file sound measure.summary reply before now (reads, are.summary) h.0 h.1
+      | inr h ↦ RefusesBy-vault s file sound measure.summary reply before now (reads, are.summary) h.0 h.1 h.2
     ]
-StagedFrom-accepted s file samples levels before now (Ready p) valid reads are stages =
-    Prepares-import s file samples levels p valid reads are stages.0 stages.1
+StagedFrom-accepted s file sound measure before now (Ready p) valid reads are stages =
+    Prepares-import s file sound measure p valid reads are stages.0 stages.1

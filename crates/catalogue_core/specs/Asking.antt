@@ -6,5 +6,5 @@ use Rattle.library_model.specs.Replies.{json, recording_text, no_recording_refus
 
 -- what is replied about the row that was looked for: the size of its greatest sample is its peak by 2^21
 abbrev pub row_reply : Option RecordingRow → Reply
-row_reply (Some row) = json 200 (recording_text row.summary.frames row.id (row.summary.peak / 2097152))
+row_reply (Some row) = json 200 (recording_text row.id row.summary (row.summary.peak / 2097152))
 row_reply None = no_recording_refusal

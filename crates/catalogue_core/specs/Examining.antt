@@ -1,17 +1,20 @@
 -- What examining a file finds.
-use Rattle.std.specs.Prelude.{◌≡◌, ℕ, ℤ, List, length}
+use Rattle.std.specs.Prelude.{◌≡◌, ℕ, List, length}
+use Rattle.file_model.specs.Pcm.{Pcm}
 use Rattle.file_model.specs.Reading.{Reads, accepted, broken}
-use Rattle.file_model.specs.Sizes.{greatest_size}
-use Rattle.catalogue_core.specs.declared.examining.Levels.{Levels}
+use Rattle.library_model.specs.Findings.{IsSummaryOf, energies_of}
+use Rattle.catalogue_core.specs.declared.measures.Measure.{Measure}
 use Rattle.catalogue_core.specs.declared.examining.Examined.{Examined}
 use Rattle.catalogue_core.specs.declared.examining.Examined.TheVariants.{Accepted, Broken}
 
--- the levels are those of the samples
-pub record AreLevelsOf (samples : List ℤ) (levels : Levels) : Type 0 where
-  pub frames : levels.frames ≡ length samples
-  pub peak : levels.sample_peak ≡ greatest_size samples
+-- the measure is that of the sound
+pub record IsMeasureOf (sound : Pcm) (measure : Measure) : Type 0 where
+  pub channels : measure.channels ≡ length sound.lists
+  pub depth : measure.depth ≡ sound.depth
+  pub summary : IsSummaryOf sound measure.summary
+  pub energies : measure.energies ≡ energies_of sound
 
--- the file is accepted, with the levels of its samples, or broken by that rule at that place
+-- the file is accepted, with the measure of its sound, or broken by that rule at that place
 abbrev pub IsFound : List ℕ → Examined → Type 0
-IsFound file (Accepted levels) = (samples : List ℤ) × Reads file (accepted samples) × AreLevelsOf samples levels
+IsFound file (Accepted measure) = (sound : Pcm) × Reads file (accepted sound) × IsMeasureOf sound measure
 IsFound file (Broken fault) = Reads file (broken fault.rule fault.place)

@@ -17,11 +17,10 @@ kept_tables library = record {
   replies = [];
 }
 
--- there is room for so many rows more in each table
-abbrev pub HasRoom : Library → ℕ → Type 0
-HasRoom library more =
-    (vec_len library.recordings + more ≤ vec_capacity library.recordings)
-    × (vec_len library.segments + more ≤ vec_capacity library.segments)
+-- there is room for so many rows more, in each table
+pub record HasRoom (library : Library) (more : ℕ) : Type 0 where
+  pub recordings : vec_len library.recordings + more ≤ vec_capacity library.recordings
+  pub segments : vec_len library.segments + more ≤ vec_capacity library.segments
 
 -- The library keeps a state: a valid one, of which it keeps the tables.
 pub record Keeps (library : Library) (s : State) : Type 0 where

@@ -3,5 +3,6 @@ pub mod Committing
 pub mod Examining
 pub mod Imports
 pub mod Kept
+pub mod Objects
 pub mod Opening
 pub mod Staging

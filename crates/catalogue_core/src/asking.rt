@@ -7,10 +7,9 @@ ghost use Rattle.catalogue_core.specs.Asking.{row_reply};
 ghost use Rattle.catalogue_core.specs.Kept.{Keeps};
 
 use crate::Library;
-use crate::importing::SAMPLE_UNIT;
 use crate::reply_texts::{describe_recording, refuse};
 use keeper_store::{RecordingRow, Vault};
-use lib_base::{Memory, Summary};
+use lib_base::Memory;
 use library_model::{Question, Reply};
 
 /// Answers a question from the rows that the library keeps. It makes no call of the vault, which
@@ -29,10 +28,7 @@ fn ask_recording(library: &Library, id: u32) -> Result<Reply, Memory>
     ensures { IfOk result (λ reply. reply ≡ row_reply (find (λ (row : RecordingRow). row.id == id) library.now.recordings.items)) }
 {
     match row_of(library.recordings.as_slice(), id) {
-        Some(row) => {
-            let Summary { frames, peak, .. } = row.summary;
-            describe_recording(library.alloc, 200, frames, row.id, peak / SAMPLE_UNIT)
-        }
+        Some(row) => describe_recording(library.alloc, 200, row.id, &row.summary),
         None => refuse(library.alloc, 404, "no-recording"),
     }
 }

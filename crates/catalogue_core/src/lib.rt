@@ -13,6 +13,7 @@ mod committing;
 mod examining;
 mod importing;
 mod libraries;
+mod measures;
 mod opening;
 mod prepared;
 mod reply_texts;

@@ -29,8 +29,7 @@ pub enum OpenRefusal {
     Memory,
 }
 
-/// The library: its counters, the rows of its recordings and those of their segments. It holds no
-/// file.
+/// The library: its counters, and the rows of its recordings and of their segments. It holds no file.
 #[derive(Debug, Drop)]
 pub struct Library {
     pub(crate) alloc: Global,

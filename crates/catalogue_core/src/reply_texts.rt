@@ -1,10 +1,11 @@
 //! The bodies of replies.
-ghost use Rattle.std.specs.Prelude.{◌≡◌, IfOk, codes, string_bytes};
-ghost use Rattle.serde_json.specs.Data.{number, unsigned, object, member, no_members};
+ghost use Rattle.std.specs.Prelude.{◌≡◌, ◌/◌, IfOk, string_bytes};
+ghost use Rattle.catalogue_core.specs.Objects.{recording_object};
 ghost use Rattle.serde_json.specs.View.{view};
 ghost use Rattle.library_model.specs.Replies as model;
 
-use lib_base::{Broken, Bytes, Memory};
+use crate::examining::SAMPLE_UNIT;
+use lib_base::{Broken, Bytes, Memory, Summary};
 use library_model::{BodyKind, Reply};
 use serde_json::{Value, json};
 use std::alloc::{AllocError, Global};
@@ -26,43 +27,36 @@ pub fn refuse_format(alloc: Global, broken: Broken) -> Result<Reply, Memory>
     Ok(json_reply(422, text))
 }
 
-/// What is replied about a recording: its frames, its id, and the greatest size of its samples.
+/// What is replied about a recording of that id and those levels.
 pub fn describe_recording(
     alloc: Global,
     status: u16,
-    frames: u64,
     id: u32,
-    sample_peak: u64,
+    summary: &Summary,
 ) -> Result<Reply, Memory>
-    ensures { IfOk result (λ reply. reply ≡ model.json status (model.recording_text frames id sample_peak)) }
+    ensures { IfOk result (λ reply. reply ≡ model.json status (model.recording_text id summary.now (summary.now.peak / 2097152))) }
 {
-    let text = recording_text(alloc, frames, id, sample_peak)?;
+    let text = recording_text(alloc, id, summary)?;
     Ok(json_reply(status, text))
 }
 
-fn recording_text(
-    alloc: Global,
-    frames: u64,
-    id: u32,
-    sample_peak: u64,
-) -> Result<String, AllocError>
-    ensures { IfOk result (λ text. string_bytes text ≡ model.recording_text frames id sample_peak) }
+fn recording_text(alloc: Global, id: u32, summary: &Summary) -> Result<String, AllocError>
+    ensures { IfOk result (λ text. string_bytes text ≡ model.recording_text id summary.now (summary.now.peak / 2097152)) }
 {
-    let value = recording_value(alloc, frames, id, sample_peak)?;
+    let value = recording_value(alloc, id, summary)?;
     value.to_string(alloc)
 }
 
-fn recording_value(
-    alloc: Global,
-    frames: u64,
-    id: u32,
-    sample_peak: u64,
-) -> Result<Value, AllocError>
-    ensures { IfOk result (λ value. view value ≡ object (member (codes "frames") (number (unsigned frames))
-        (member (codes "id") (number (unsigned id))
-        (member (codes "sample_peak") (number (unsigned sample_peak)) no_members)))) }
+fn recording_value(alloc: Global, id: u32, summary: &Summary) -> Result<Value, AllocError>
+    ensures { IfOk result (λ value. view value ≡ recording_object id summary.now (summary.now.peak / 2097152)) }
 {
-    json!(in alloc; {"frames": frames, "id": id, "sample_peak": sample_peak})
+    json!(in alloc; {
+        "frames": summary.frames,
+        "gain": summary.gain,
+        "id": id,
+        "loudness": summary.loudness,
+        "sample_peak": summary.peak / SAMPLE_UNIT
+    })
 }
 
 fn json_reply(status: u16, text: String) -> Reply

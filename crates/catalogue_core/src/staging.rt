@@ -8,8 +8,9 @@ ghost use Rattle.catalogue_core.specs.Imports.{StagesAccepted, lacks_numbers};
 ghost use Rattle.catalogue_core.specs.Kept.{kept_tables, Keeps};
 ghost use Rattle.catalogue_core.specs.Staging.{StagedFrom, HoldsFileOf, IfReady, LeavesUnlessFailed};
 
-use crate::examining::{Examined, Levels, examine};
+use crate::examining::{Examined, examine};
 use crate::importing::prepare_import;
+use crate::measures::Measure;
 use crate::reply_texts::{refuse, refuse_format};
 use crate::{Library, Staged};
 use keeper_store::Vault;
@@ -63,7 +64,7 @@ fn stage_import<V: Vault>(
 {
     match examine(library.alloc, file.as_slice())? {
         Examined::Broken(fault) => Ok(Staged::Refused(refuse_format(library.alloc, fault)?)),
-        Examined::Accepted(levels) => stage_accepted(library, file.as_slice(), levels, vault),
+        Examined::Accepted(measure) => stage_accepted(library, file.as_slice(), &measure, vault),
     }
 }
 
@@ -71,11 +72,11 @@ fn stage_import<V: Vault>(
 fn stage_accepted<V: Vault>(
     library: &mut Library,
     file: &[u8],
-    levels: Levels,
+    measure: &Measure,
     vault: &mut V,
 ) -> Result<Staged, Memory>
     ensures stages { IfOk result
-        (StagesAccepted (kept_tables library.old) file.now levels (V.faults vault.old) (V.faults vault.new)) }
+        (StagesAccepted (kept_tables library.old) file.now measure.now (V.faults vault.old) (V.faults vault.new)) }
     ensures fits { IfReady result (Fits library.new) }
     ensures kept { kept_tables library.new ≡ kept_tables library.old }
     ensures others { Goes (OthersKept (kept_tables library.old).next_take) (V.blobs vault.old) (V.blobs vault.new) }
@@ -89,7 +90,7 @@ fn stage_accepted<V: Vault>(
     if has_no_number(library) {
         return Ok(Staged::Refused(refuse(alloc, 409, "ids")?));
     }
-    let ready = prepare_import(library, file, levels)?;
+    let ready = prepare_import(library, file, measure)?;
     let vault_refusal = refuse(alloc, 502, "vault")?;
     match vault.put(library.next_take, file) {
         Ok(()) => Ok(Staged::Ready(ready)),

@@ -111,7 +111,7 @@ frames_from_length k n m whole some one other =
     let same : k * n ≡ k * m = omega (arith, one, other) in
     sym (mul-div_cancel_left n some) ∙ ap (λ (count : ℕ). count / k) same ∙ mul-div_cancel_left m some
 
-same_pcm : (a b : Pcm) → a.depth ≡ b.depth → a.frames ≡ b.frames → a.lists ≡ b.lists → a ≡ b
+pub same_pcm : (a b : Pcm) → a.depth ≡ b.depth → a.frames ≡ b.frames → a.lists ≡ b.lists → a ≡ b
 same_pcm a b depth frames lists =
     let with_depth : ℕ → Pcm = λ d. record { depth = d; frames = a.frames; lists = a.lists } in
     let with_frames : ℕ → Pcm = λ n. record { depth = b.depth; frames = n; lists = a.lists } in

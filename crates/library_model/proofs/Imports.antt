@@ -2,16 +2,20 @@
 use Rattle.std.proofs.Common.{◌≡◌, ℕ, ◌+◌, ◌<◌, ◌≤◌, ◌≢◌, ℤ, Bool, true, Some, List, [], ◌∷◌, ◌++◌, map, refl, sym, ap, ◌∙◌, subst, arith, lt-ltb}
 use Rattle.std.proofs.lemmas.List.{map-append}
 use Rattle.std.specs.List.{AllByRecursion}
-use Rattle.file_model.specs.Reading.{Reads, accepted}
+use Rattle.lib_base.specs.declared.files.Summary.{Summary}
+use Rattle.file_model.specs.Pcm.{Pcm}
+use Rattle.library_model.specs.Findings.{Finds, measured}
 use Rattle.keeper_store.specs.Blobs.{Blobs, OthersKept}
 use Rattle.keeper_store.specs.Changes.{empty_tables, changed_all}
-use Rattle.keeper_store.specs.Puts.{put, recording_less}
-use Rattle.keeper_store.specs.declared.contents.Change.TheVariants.{Counters, PutRecording}
+use Rattle.keeper_store.specs.Puts.{put, recording_less, segments_less}
+use Rattle.keeper_store.specs.declared.contents.Change.TheVariants.{Counters, PutRecording, PutSegments}
 use Rattle.keeper_store.specs.declared.contents.Tables.{Tables}
 use Rattle.keeper_store.specs.declared.row_types.RecordingRow.{RecordingRow}
+use Rattle.keeper_store.specs.declared.row_types.SegmentRow.{SegmentRow}
 use Rattle.keeper_store.proofs.Putting.{map-put}
 use Rattle.library_model.specs.Machine.{imported, new_recording}
-use Rattle.library_model.specs.Stands.{HoldsFiles, recording_row, tables_of}
+use Rattle.std.specs.Prelude.{fold}
+use Rattle.library_model.specs.Stands.{HoldsFiles, recording_row, segment_row, segment_rows, tables_of}
 use Rattle.library_model.specs.State.{Recording, State, IsValid, IsGiven, Ascend, Differ, empty_state, numbers_end, recording_before}
 
 -- ---- lists of which each element has a property
@@ -70,22 +74,22 @@ Differ-push (first ∷ ns) n differ other = (
 )
 
 -- In a valid state an import's recording comes last.
-pub recordings-imported : (s : State) (file : List ℕ) (samples : List ℤ) → IsValid s
-    → (imported s file samples).recordings ≡ s.recordings ++ new_recording s file samples ∷ []
-recordings-imported s file samples valid =
-    put-last recording_before (new_recording s file samples) s.recordings
+pub recordings-imported : (s : State) (file : List ℕ) (sound : Pcm) (summary : Summary) → IsValid s
+    → (imported s file sound summary).recordings ≡ s.recordings ++ new_recording s file sound summary ∷ []
+recordings-imported s file sound summary valid =
+    put-last recording_before (new_recording s file sound summary) s.recordings
     (AllByRecursion-weaker (λ (r : Recording). IsGiven s.next_recording r.id)
-    (λ (r : Recording). recording_before r (new_recording s file samples) ≡ true) s.recordings
+    (λ (r : Recording). recording_before r (new_recording s file sound summary) ≡ true) s.recordings
     (λ r given. lt-ltb r.id s.next_recording given.1) valid.ids_given)
 
 -- An import of a wave under numbers that are left keeps a state valid.
-pub imported-IsValid : (s : State) (file : List ℕ) (samples : List ℤ) → IsValid s
-    → s.next_recording < numbers_end → s.next_take < numbers_end → Reads file (accepted samples)
-    → IsValid (imported s file samples)
-imported-IsValid s file samples valid ids takes reads =
-    let new : Recording = new_recording s file samples in
-    let last : s.recordings ++ new ∷ [] ≡ (imported s file samples).recordings =
-    sym (recordings-imported s file samples valid) in
+pub imported-IsValid : (s : State) (file : List ℕ) (sound : Pcm) (summary : Summary) → IsValid s
+    → s.next_recording < numbers_end → s.next_take < numbers_end → Finds file (measured sound summary)
+    → IsValid (imported s file sound summary)
+imported-IsValid s file sound summary valid ids takes reads =
+    let new : Recording = new_recording s file sound summary in
+    let last : s.recordings ++ new ∷ [] ≡ (imported s file sound summary).recordings =
+    sym (recordings-imported s file sound summary valid) in
     let low_id : 1 ≤ s.next_recording = valid.recordings.0 in
     let low_take : 1 ≤ s.next_take = valid.takes.0 in
     record {
@@ -115,25 +119,37 @@ imported-IsValid s file samples valid ids takes reads =
           (AllByRecursion-weaker (λ (r : Recording). IsGiven s.next_take r.take)
           (λ (r : Recording). s.next_take ≢ r.take) s.recordings
           (λ r given same. omega (arith, given.1, same)) valid.takes_given))));
-      files = subst (AllByRecursion (λ (r : Recording). Reads r.file (accepted r.samples))) last
-          (AllByRecursion-push (λ (r : Recording). Reads r.file (accepted r.samples)) s.recordings new valid.files reads);
+      files = subst (AllByRecursion (λ (r : Recording). Finds r.file (measured r.sound r.summary))) last
+          (AllByRecursion-push (λ (r : Recording). Finds r.file (measured r.sound r.summary)) s.recordings new valid.files reads);
     }
 
--- The tables after an import are the changes of its counters and of its row.
-pub tables_of-imported : (s : State) (file : List ℕ) (samples : List ℤ) → tables_of (imported s file samples)
+-- One recording more puts the row of its segments in its place.
+segment_rows-push : (rows : List SegmentRow) (rs : List Recording) (r : Recording)
+    → fold (λ (rows : List SegmentRow) (r : Recording). put segments_less (segment_row r) rows) rows (rs ++ r ∷ [])
+    ≡ put segments_less (segment_row r) (fold (λ (rows : List SegmentRow) (r : Recording). put segments_less (segment_row r) rows) rows rs)
+segment_rows-push rows [] r = refl
+segment_rows-push rows (first ∷ rs) r = segment_rows-push (put segments_less (segment_row first) rows) rs r
+
+-- The tables after an import are the changes of its counters and of its rows.
+pub tables_of-imported : (s : State) (file : List ℕ) (sound : Pcm) (summary : Summary) → IsValid s → tables_of (imported s file sound summary)
     ≡ changed_all (Counters s.next_album (s.next_recording + 1) (s.next_take + 1)
-    ∷ PutRecording (recording_row (new_recording s file samples)) ∷ []) (tables_of s)
-tables_of-imported s file samples =
-    ap (λ (rows : List RecordingRow). let after : Tables = record {
+    ∷ PutRecording (recording_row (new_recording s file sound summary))
+    ∷ PutSegments (segment_row (new_recording s file sound summary)) ∷ []) (tables_of s)
+tables_of-imported s file sound summary valid =
+    let with_rows : List RecordingRow → List SegmentRow → Tables = λ rows segments. record {
       next_album = s.next_album;
       next_recording = s.next_recording + 1;
       next_take = s.next_take + 1;
       albums = [];
       recordings = rows;
-      segments = [];
+      segments = segments;
       replies = [];
-    } in after)
-    (map-put recording_before recording_less recording_row (λ a b. refl) (new_recording s file samples) s.recordings)
+    } in
+    let new = new_recording s file sound summary in
+    ap (λ (rows : List RecordingRow). with_rows rows (segment_rows (imported s file sound summary).recordings))
+    (map-put recording_before recording_less recording_row (λ a b. refl) new s.recordings)
+    ∙ ap (with_rows (put recording_less (recording_row new) (map recording_row s.recordings)))
+    (ap segment_rows (recordings-imported s file sound summary valid) ∙ segment_rows-push [] s.recordings new)
 
 -- Blobs that hold another file under the next take hold the files of the state.
 pub HoldsFiles-kept : (s : State) (old new : Blobs) → IsValid s → HoldsFiles old s.recordings
@@ -144,12 +160,12 @@ HoldsFiles-kept s old new valid holds kept =
     (λ r held given. kept r.take (λ same. omega (arith, given.1, same)) ∙ held) holds valid.takes_given
 
 -- Blobs that hold the new file under the next take hold the files of the state after the import.
-pub HoldsFiles-imported : (s : State) (file : List ℕ) (samples : List ℤ) (old new : Blobs) → IsValid s
+pub HoldsFiles-imported : (s : State) (file : List ℕ) (sound : Pcm) (summary : Summary) (old new : Blobs) → IsValid s
     → HoldsFiles old s.recordings → OthersKept s.next_take old new → new s.next_take ≡ Some file
-    → HoldsFiles new (imported s file samples).recordings
-HoldsFiles-imported s file samples old new valid holds kept put_there =
-    subst (HoldsFiles new) (sym (recordings-imported s file samples valid))
-    (AllByRecursion-push (λ (r : Recording). new r.take ≡ Some r.file) s.recordings (new_recording s file samples)
+    → HoldsFiles new (imported s file sound summary).recordings
+HoldsFiles-imported s file sound summary old new valid holds kept put_there =
+    subst (HoldsFiles new) (sym (recordings-imported s file sound summary valid))
+    (AllByRecursion-push (λ (r : Recording). new r.take ≡ Some r.file) s.recordings (new_recording s file sound summary)
     (HoldsFiles-kept s old new valid holds kept) put_there)
 
 -- ---- the empty state

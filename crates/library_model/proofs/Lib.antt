@@ -1,4 +1,5 @@
 pub mod Runs
 pub mod Imports
+pub mod Measuring
 pub mod Readings
 pub mod Rows

@@ -3,14 +3,16 @@ use Rattle.std.proofs.Common.{◌≡◌, ℕ, ◌+◌, ◌<◌, ℤ, false, ◌|
 use Rattle.std.proofs.Math.Seq.{take-append_seam, drop-append_seam}
 use Rattle.httparse.specs.Grammar.{RequestHead, ReadsRequest, print_request, print_blank, print_version, print_end, print_section}
 use Rattle.httparse.proofs.GrammarLemmas.{request_unique, ReadsRequest-append}
-use Rattle.file_model.specs.Reading.{Reading, Reads, accepted}
-use Rattle.file_model.proofs.Readings.{Reads_unique}
+use Rattle.lib_base.specs.declared.files.Summary.{Summary}
+use Rattle.file_model.specs.Pcm.{Pcm}
+use Rattle.library_model.specs.Findings.{Finds, measured}
 use Rattle.library_model.specs.declared.messages.Command.{Command}
 use Rattle.library_model.specs.declared.messages.Command.TheVariants.{Import}
 use Rattle.library_model.specs.declared.messages.Request.{Request}
 use Rattle.library_model.specs.declared.messages.Question.TheVariants as about
 use Rattle.library_model.specs.Asked.{Asked, change, question}
 use Rattle.library_model.specs.Framing.{BeginsImport, BeginsQuestion, id_asked, Begins, BeginWith, EndsAs, End, ended, unframeable, RequestsOf, body_length}
+use Rattle.library_model.proofs.Measuring.{Finds_unique}
 use Rattle.library_model.specs.Machine.{Decides, DecidesCommand, Verdict, stays, accepts, verdict_reply, import_verdict, recording_reply, new_recording, imported}
 use Rattle.library_model.specs.Replies.{ids_refusal}
 use Rattle.library_model.specs.State.{State, numbers_end}
@@ -157,25 +159,24 @@ RequestsOf-unique input qs ps e f (inl x) (inr y) = absurd (omega (arith, x.0, y
 RequestsOf-unique input qs ps e f (inr x) (inl y) = absurd (omega (arith, x.0, y.0))
 RequestsOf-unique input qs ps e f (inr x) (inr y) = (x.1 ∙ sym y.1, x.2 ∙ sym y.2)
 
--- Where a file reads in one way, there is one verdict on a command.
-pub DecidesCommand-unique : ((b : List ℕ) (r q : Reading) → Reads b r → Reads b q → r ≡ q)
-    → (s : State) (command : Command) (v w : Verdict) → DecidesCommand s command v → DecidesCommand s command w → v ≡ w
-DecidesCommand-unique unique s (Import file) v w x y =
-    x.2 ∙ ap (import_verdict s file) (unique file x.0 y.0 x.1 y.1) ∙ sym y.2
+-- There is one verdict on a command.
+pub DecidesCommand-unique : (s : State) (command : Command) (v w : Verdict) → DecidesCommand s command v → DecidesCommand s command w → v ≡ w
+DecidesCommand-unique s (Import file) v w x y =
+    x.2 ∙ ap (import_verdict s file) (Finds_unique file x.0 y.0 x.1 y.1) ∙ sym y.2
 
--- Where a file reads in one way, there is one verdict on a request.
-pub Decides-unique : ((b : List ℕ) (r q : Reading) → Reads b r → Reads b q → r ≡ q)
-    → (s : State) (q : Asked) (v w : Verdict) → Decides s q v → Decides s q w → v ≡ w
-Decides-unique unique s (change q) v w x y = DecidesCommand-unique unique s q.command v w x y
-Decides-unique unique s (question q) v w x y = x ∙ sym y
+-- There is one verdict on a request.
+pub Decides-unique : (s : State) (q : Asked) (v w : Verdict) → Decides s q v → Decides s q w → v ≡ w
+Decides-unique s (change q) v w x y = DecidesCommand-unique s q.command v w x y
+Decides-unique s (question q) v w x y = x ∙ sym y
 
 -- The import of an accepted file for which numbers are left is granted: its verdict replies 201.
-pub import_granted : (s : State) (file : List ℕ) (samples : List ℤ) (request : Request) (verdict : Verdict)
-    → request.command ≡ Import file → Reads file (accepted samples)
+pub import_granted : (s : State) (file : List ℕ) (sound : Pcm) (summary : Summary) (request : Request) (verdict : Verdict)
+    → request.command ≡ Import file → Finds file (measured sound summary)
     → (nat_le numbers_end s.next_recording || nat_le numbers_end s.next_take) ≡ false
     → Decides s (change request) verdict → (verdict_reply verdict).status ≡ 201
-import_granted s file samples request verdict is reads left decides =
+import_granted s file sound summary request verdict is finds left decides =
     let command = subst (λ (c : Command). DecidesCommand s c verdict) is decides in
-    let granted = command.2 ∙ ap (import_verdict s file) (Reads_unique file command.0 (accepted samples) command.1 reads)
-    ∙ ap (λ b. if b then stays ids_refusal else accepts (recording_reply 201 (new_recording s file samples)) (imported s file samples)) left in
+    let granted = command.2 ∙ ap (import_verdict s file) (Finds_unique file command.0 (measured sound summary) command.1 finds)
+    ∙ ap (λ b. if b then stays ids_refusal else accepts (recording_reply 201 (new_recording s file sound summary)) (imported s file sound summary)) left in
     ap (λ (v : Verdict). (verdict_reply v).status) granted
+

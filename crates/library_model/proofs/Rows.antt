@@ -10,8 +10,10 @@ use Rattle.httparse.proofs.OnLiterals.{httparse_on_literals}
 use Rattle.httparse.specs.Grammar.{RequestHead, IsField, ReadsRequest, crlf, is_token_byte, is_uri_byte, is_value_byte}
 use Rattle.md5.specs.Md5.{md5, block_words, rounds, compress, hash_after, digest_bytes}
 use Rattle.lib_base.specs.declared.outcomes.Rule.TheVariants.{K}
-use Rattle.file_model.specs.Reading.{Reads, accepted, broken}
-use Rattle.file_model.proofs.Rows.{four_frames, four_samples, four_frames_read}
+use Rattle.lib_base.specs.declared.files.Summary.{Summary}
+use Rattle.file_model.specs.Pcm.{Pcm}
+use Rattle.file_model.proofs.Rows.{four_frames, four_samples, sixteen_bits, four_frames_read}
+use Rattle.library_model.specs.Findings.{Finds, measured, broken_by}
 use Rattle.library_model.specs.declared.messages.Command.TheVariants.{Import}
 use Rattle.library_model.specs.Asked.{change, question}
 use Rattle.library_model.specs.declared.messages.Question.TheVariants as about
@@ -23,17 +25,39 @@ use Rattle.library_model.specs.State.{Recording, State, IsGiven, IsValid, empty_
 
 -- ---- one recording
 
+-- Its sound.
+abbrev pub row_sound : Pcm
+row_sound = sixteen_bits 4 (four_samples ∷ [])
+
+-- The levels of that sound: four frames make no block, so it has no loudness. Its peak is half of full scale.
+abbrev pub row_summary : Summary
+row_summary = record {
+  frames = 4;
+  loudness = None;
+  range = None;
+  momentary = None;
+  short_term = None;
+  true_peak = None;
+  peak = 34359738368;
+  gain = None;
+}
+
 -- The recording that it becomes as the first one.
 abbrev pub row_recording : Recording
-row_recording = record { id = 1; take = 1; file = four_frames 1; samples = four_samples }
+row_recording = record { id = 1; take = 1; file = four_frames 1; sound = row_sound; summary = row_summary }
 
--- The file reads as its samples.
-pub row_file-Reads : Reads row_recording.file (accepted row_recording.samples)
-row_file-Reads = four_frames_read
-
--- Its peak is half of full scale, in units of 2^-36.
-pub recording_row-peak : (recording_row row_recording).summary.peak ≡ 34359738368
-recording_row-peak = refl
+-- The file is found to be that sound, with those levels.
+pub row_file-Finds : Finds row_recording.file (measured row_recording.sound row_recording.summary)
+row_file-Finds = (four_frames_read, record {
+  counted = refl;
+  loudness = tt;
+  gain = refl;
+  size = refl;
+  no_range = refl;
+  no_momentary = refl;
+  no_short_term = refl;
+  no_true_peak = refl;
+})
 
 -- The MD5 of the file.
 pub recording_row-digest : (recording_row row_recording).digest
@@ -46,8 +70,8 @@ recording_row-digest = refl
 -- The reply to its import.
 pub spelled-recording_reply : spelled false (recording_reply 201 row_recording)
     ≡ codes "HTTP/1.1 201 Created" ++ 13 ∷ 10 ∷ codes "Content-Type: application/json"
-    ++ 13 ∷ 10 ∷ codes "Content-Length: 39"
-    ++ 13 ∷ 10 ∷ 13 ∷ 10 ∷ codes "{\"frames\":4,\"id\":1,\"sample_peak\":16384}"
+    ++ 13 ∷ 10 ∷ codes "Content-Length: 67"
+    ++ 13 ∷ 10 ∷ 13 ∷ 10 ∷ codes "{\"frames\":4,\"gain\":null,\"id\":1,\"loudness\":null,\"sample_peak\":16384}"
 unfolding digits
 spelled-recording_reply = refl
 
@@ -308,20 +332,20 @@ RequestsOf-nothing = inl (omega arith, ([], refl, refl))
 -- ---- verdicts
 
 -- The first import is accepted as recording 1.
-pub import_verdict-accepts : import_verdict empty_state (four_frames 1) (accepted four_samples)
-    ≡ accepts (json 201 (codes "{\"frames\":4,\"id\":1,\"sample_peak\":16384}"))
+pub import_verdict-accepts : import_verdict empty_state (four_frames 1) (measured row_sound row_summary)
+    ≡ accepts (json 201 (codes "{\"frames\":4,\"gain\":null,\"id\":1,\"loudness\":null,\"sample_peak\":16384}"))
     (record { next_album = 1; next_recording = 2; next_take = 2; recordings = row_recording ∷ [] })
 unfolding digits
 import_verdict-accepts = refl
 
 -- From the state that it leads to, a question after recording 1 is answered with the same body.
-pub question_reply-imported : question_reply (imported empty_state (four_frames 1) four_samples) (about.Recording 1)
-    ≡ json 200 (codes "{\"frames\":4,\"id\":1,\"sample_peak\":16384}")
+pub question_reply-imported : question_reply (imported empty_state (four_frames 1) row_sound row_summary) (about.Recording 1)
+    ≡ json 200 (codes "{\"frames\":4,\"gain\":null,\"id\":1,\"loudness\":null,\"sample_peak\":16384}")
 unfolding digits
 question_reply-imported = refl
 
 -- Another one finds nothing.
-pub question_reply-other : question_reply (imported empty_state (four_frames 1) four_samples) (about.Recording 2)
+pub question_reply-other : question_reply (imported empty_state (four_frames 1) row_sound row_summary) (about.Recording 2)
     ≡ json 404 (codes "{\"error\":\"no-recording\"}")
 question_reply-other = refl
 
@@ -337,7 +361,7 @@ recording_of-zero s valid = not_given s.next_recording s.recordings valid.ids_gi
         rw other (not_given next recordings given.1)
 
 -- A file that breaks a rule is refused by it.
-pub import_verdict-broken : import_verdict empty_state (codes "RIFF") (broken (K 0) 0)
+pub import_verdict-broken : import_verdict empty_state (codes "RIFF") (broken_by (K 0) 0)
     ≡ stays (json 422 (codes "{\"error\":\"format\",\"place\":0,\"rule\":\"K0\"}"))
 unfolding digits
 import_verdict-broken = refl
@@ -347,13 +371,13 @@ abbrev pub row_full : State
 row_full = record { next_album = 1; next_recording = 2147483647; next_take = 1; recordings = [] }
 
 -- No number is left there.
-pub import_verdict-full : import_verdict row_full (four_frames 1) (accepted four_samples)
+pub import_verdict-full : import_verdict row_full (four_frames 1) (measured row_sound row_summary)
     ≡ stays (json 409 (codes "{\"error\":\"ids\"}"))
 import_verdict-full = refl
 
 -- The state before it has one number left.
-pub import_verdict-last : import_verdict (record row_full { next_recording = 2147483646 }) (four_frames 1) (accepted four_samples)
-    ≡ accepts (json 201 (codes "{\"frames\":4,\"id\":2147483646,\"sample_peak\":16384}"))
+pub import_verdict-last : import_verdict (record row_full { next_recording = 2147483646 }) (four_frames 1) (measured row_sound row_summary)
+    ≡ accepts (json 201 (codes "{\"frames\":4,\"gain\":null,\"id\":2147483646,\"loudness\":null,\"sample_peak\":16384}"))
     (record {
       next_album = 1;
       next_recording = 2147483647;

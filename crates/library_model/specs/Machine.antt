@@ -1,8 +1,9 @@
 -- The library as a machine: how it answers a request, and where it goes from there.
-use Rattle.std.specs.Prelude.{◌≡◌, ◌+◌, ◌||◌, ◌==◌, ℕ, ℤ, List, [], ◌∷◌, length, nat_le, Option, None, Some, if◌then◌else◌, ⊤}
+use Rattle.std.specs.Prelude.{◌≡◌, ◌+◌, ◌||◌, ◌==◌, ℕ, List, [], ◌∷◌, nat_le, Option, None, Some, if◌then◌else◌, ⊤}
 use Rattle.std.specs.List.{find}
-use Rattle.file_model.specs.Reading.{Reading, Reads, accepted, broken}
-use Rattle.file_model.specs.Sizes.{greatest_size}
+use Rattle.lib_base.specs.declared.files.Summary.{Summary}
+use Rattle.file_model.specs.Pcm.{Pcm}
+use Rattle.file_model.specs.Sizes.{greatest_over}
 use Rattle.keeper_store.specs.Puts.{put}
 use Rattle.library_model.specs.declared.messages.Command.{Command}
 use Rattle.library_model.specs.declared.messages.Command.TheVariants.{Import}
@@ -10,6 +11,7 @@ use Rattle.library_model.specs.declared.messages.Question.{Question}
 use Rattle.library_model.specs.declared.messages.Question.TheVariants as about
 use Rattle.library_model.specs.declared.messages.Reply.{Reply}
 use Rattle.library_model.specs.Asked.{Asked, change, question}
+use Rattle.library_model.specs.Findings.{Finding, Finds, measured, broken_by}
 use Rattle.library_model.specs.Replies.{json, recording_text, format_refusal, ids_refusal, no_recording_refusal, vault_refusal, memory_refusal, keeper_refusal}
 use Rattle.library_model.specs.State.{Recording, State, numbers_end, recording_before}
 
@@ -20,31 +22,31 @@ pub data Verdict : Type 0 where
 
 -- what is replied about a recording
 abbrev pub recording_reply : ℕ → Recording → Reply
-recording_reply status r = json status (recording_text (length r.samples) r.id (greatest_size r.samples))
+recording_reply status r = json status (recording_text r.id r.summary (greatest_over r.sound.lists))
 
 -- the recording that an import makes, under the next numbers
-abbrev pub new_recording : State → List ℕ → List ℤ → Recording
-new_recording s file samples = record { id = s.next_recording; take = s.next_take; file = file; samples = samples }
+abbrev pub new_recording : State → List ℕ → Pcm → Summary → Recording
+new_recording s file sound summary = record { id = s.next_recording; take = s.next_take; file = file; sound = sound; summary = summary }
 
 -- the state after an import
-abbrev pub imported : State → List ℕ → List ℤ → State
-imported s file samples = record s {
+abbrev pub imported : State → List ℕ → Pcm → Summary → State
+imported s file sound summary = record s {
   next_recording = s.next_recording + 1;
   next_take = s.next_take + 1;
-  recordings = put recording_before (new_recording s file samples) s.recordings;
+  recordings = put recording_before (new_recording s file sound summary) s.recordings;
 }
 
 -- An import of a file that breaks a rule is refused by that rule, and one for which no number is left as `ids`.
-abbrev pub import_verdict : State → List ℕ → Reading → Verdict
-import_verdict s file (broken rule place) = stays (format_refusal rule place)
-import_verdict s file (accepted samples) =
+abbrev pub import_verdict : State → List ℕ → Finding → Verdict
+import_verdict s file (broken_by rule place) = stays (format_refusal rule place)
+import_verdict s file (measured sound summary) =
     if nat_le numbers_end s.next_recording || nat_le numbers_end s.next_take
     then stays ids_refusal
-    else accepts (recording_reply 201 (new_recording s file samples)) (imported s file samples)
+    else accepts (recording_reply 201 (new_recording s file sound summary)) (imported s file sound summary)
 
--- the verdict on a command, by what its file reads as
+-- the verdict on a command, by what its file is found to be
 abbrev pub DecidesCommand : State → Command → Verdict → Type 0
-DecidesCommand s (Import file) verdict = (reading : Reading) × Reads file reading × (verdict ≡ import_verdict s file reading)
+DecidesCommand s (Import file) verdict = (finding : Finding) × Finds file finding × (verdict ≡ import_verdict s file finding)
 
 -- the recording of an id, if there is one
 abbrev pub recording_of : ℕ → List Recording → Option Recording

@@ -1,5 +1,7 @@
 -- Replies, and the bytes that spell them (RFC 9112, RFC 8259).
-use Rattle.std.specs.Prelude.{ℕ, Bool, true, false, List, [], ◌∷◌, ◌++◌, ◌==◌, length, codes, decimal, if◌then◌else◌}
+use Rattle.std.specs.Prelude.{ℕ, ℤ, Bool, true, false, List, [], ◌∷◌, ◌++◌, ◌==◌, length, codes, decimal, Option, None, Some, if◌then◌else◌}
+use Rattle.std.specs.Fmt.{signed_decimal}
+use Rattle.lib_base.specs.declared.files.Summary.{Summary}
 use Rattle.lib_base.specs.declared.outcomes.Rule.{Rule}
 use Rattle.lib_base.specs.Rules.{rule_text}
 use Rattle.library_model.specs.declared.messages.BodyKind.{BodyKind}
@@ -96,10 +98,17 @@ abbrev pub format_refusal : Rule → ℕ → Reply
 format_refusal rule place =
     json 422 (codes "{\"error\":\"format\",\"place\":" ++ decimal place ++ codes ",\"rule\":\"" ++ rule_text rule ++ codes "\"}")
 
--- a recording as it is answered: its frames, its id and the greatest size of its samples
-abbrev pub recording_text : ℕ → ℕ → ℕ → List ℕ
-recording_text frames id sample_peak =
-    codes "{\"frames\":" ++ decimal frames
+-- a level as it is answered, in hundredths: its sign and its digits, or null where it is absent
+abbrev pub level_text : Option ℤ → List ℕ
+level_text None = codes "null"
+level_text (Some level) = signed_decimal level
+
+-- a recording as it is answered: its frames, gain, id and loudness, and the greatest size of its samples
+abbrev pub recording_text : ℕ → Summary → ℕ → List ℕ
+recording_text id summary sample_peak =
+    codes "{\"frames\":" ++ decimal summary.frames
+    ++ codes ",\"gain\":" ++ level_text summary.gain
     ++ codes ",\"id\":" ++ decimal id
+    ++ codes ",\"loudness\":" ++ level_text summary.loudness
     ++ codes ",\"sample_peak\":" ++ decimal sample_peak
     ++ codes "}"

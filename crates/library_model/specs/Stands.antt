@@ -1,27 +1,16 @@
 -- What tables and blobs stand for.
-use Rattle.std.specs.Prelude.{◌≡◌, ◌*◌, List, [], None, Some, length, map}
+use Rattle.std.specs.Prelude.{◌≡◌, List, [], None, Some, length, map, fold}
 use Rattle.std.specs.List.{AllByRecursion}
 use Rattle.md5.specs.Md5.{md5}
 use Rattle.lib_base.specs.declared.files.Kind.TheVariants.{Wave}
-use Rattle.lib_base.specs.declared.files.Summary.{Summary}
-use Rattle.file_model.specs.Sizes.{greatest_size}
 use Rattle.keeper_store.specs.Blobs.{Blobs}
 use Rattle.keeper_store.specs.declared.contents.Tables.{Tables}
 use Rattle.keeper_store.specs.declared.row_types.RecordingRow.{RecordingRow}
+use Rattle.keeper_store.specs.declared.row_types.SegmentRow.{SegmentRow}
+use Rattle.keeper_store.specs.EnergyBytes.{row_bytes}
+use Rattle.keeper_store.specs.Puts.{put, segments_less}
+use Rattle.library_model.specs.Findings.{energies_of}
 use Rattle.library_model.specs.State.{Recording, State, IsValid}
-
--- the measured levels of a recording: its frames, and its peak in units of 2^-36 of full scale (2^21 for a 16-bit sample of size 1)
-abbrev pub summary_of : Recording → Summary
-summary_of r = record {
-  frames = length r.samples;
-  loudness = None;
-  range = None;
-  momentary = None;
-  short_term = None;
-  true_peak = None;
-  peak = 2097152 * greatest_size r.samples;
-  gain = None;
-}
 
 -- the row of a recording, with the MD5 of its file (RFC 1321)
 abbrev pub recording_row : Recording → RecordingRow
@@ -31,11 +20,19 @@ recording_row r = record {
   name = [];
   take = r.take;
   kind = Wave;
-  channels = 1;
-  depth = 16;
+  channels = length r.sound.lists;
+  depth = r.sound.depth;
   digest = md5 r.file;
-  summary = summary_of r;
+  summary = r.summary;
 }
+
+-- the row of the energies of a recording's segments, 11 bytes each
+abbrev pub segment_row : Recording → SegmentRow
+segment_row r = record { take = r.take; energies = row_bytes (energies_of r.sound) }
+
+-- the rows of the segments of recordings, each put in its place
+abbrev pub segment_rows : List Recording → List SegmentRow
+segment_rows recordings = fold (λ (rows : List SegmentRow) (r : Recording). put segments_less (segment_row r) rows) [] recordings
 
 -- the tables of a state
 abbrev pub tables_of : State → Tables
@@ -45,7 +42,7 @@ tables_of s = record {
   next_take = s.next_take;
   albums = [];
   recordings = map recording_row s.recordings;
-  segments = [];
+  segments = segment_rows s.recordings;
   replies = [];
 }
 

@@ -1,14 +1,18 @@
 -- What the library holds.
-use Rattle.std.specs.Prelude.{◌≢◌, ◌<◌, ◌≤◌, ℕ, ℤ, Bool, nat_lt, List, [], ◌∷◌, map, ⊤}
+use Rattle.std.specs.Prelude.{◌≢◌, ◌<◌, ◌≤◌, ℕ, Bool, nat_lt, List, [], ◌∷◌, map, ⊤}
 use Rattle.std.specs.List.{AllByRecursion}
-use Rattle.file_model.specs.Reading.{Reads, accepted}
+use Rattle.lib_base.specs.declared.files.Summary.{Summary}
+use Rattle.file_model.specs.Pcm.{Pcm}
+use Rattle.library_model.specs.Findings.{Finds, measured}
 
--- a recording: its id, its take (the number under which its file is kept), its file, and the samples that the file reads as
+-- a recording: its id, its take (the number under which its file is kept), its file, the sound that the file reads as, and
+-- the levels of that sound
 pub record Recording : Type 0 where
   pub id : ℕ
   pub take : ℕ
   pub file : List ℕ
-  pub samples : List ℤ
+  pub sound : Pcm
+  pub summary : Summary
 
 -- the recordings in ascending order of id, and the numbers that come next
 pub record State : Type 0 where
@@ -47,7 +51,7 @@ IsGiven next number = (1 ≤ number) × (number < next)
 abbrev pub IsCounter : ℕ → Type 0
 IsCounter next = (1 ≤ next) × (next ≤ numbers_end)
 
--- Ids ascend, takes differ, both were given by their counters, and each file reads as its samples.
+-- Ids ascend, takes differ, both were given by their counters, and each file reads as its sound, which has its levels.
 pub record IsValid (s : State) : Type 0 where
   pub albums : IsCounter s.next_album
   pub recordings : IsCounter s.next_recording
@@ -56,4 +60,4 @@ pub record IsValid (s : State) : Type 0 where
   pub ids_given : AllByRecursion (λ (r : Recording). IsGiven s.next_recording r.id) s.recordings
   pub takes_given : AllByRecursion (λ (r : Recording). IsGiven s.next_take r.take) s.recordings
   pub takes_differ : Differ (map (λ (r : Recording). r.take) s.recordings)
-  pub files : AllByRecursion (λ (r : Recording). Reads r.file (accepted r.samples)) s.recordings
+  pub files : AllByRecursion (λ (r : Recording). Finds r.file (measured r.sound r.summary)) s.recordings

@@ -1,4 +1,6 @@
 //! Runs over objects in memory.
+ghost use Rattle.std.specs.Prelude.{◌<◌};
+
 use self::Piece::{
     AskFirst, AskNinth, BadRow, Broken, CutImport, First, Found, Frame, Import, Missing, NoKeeper,
     NoVault, Nothing, Second, Size, TwoChannels, Usage,
@@ -23,10 +25,10 @@ const TWO_CHANNELS: &[u8] =
     b"POST /recordings HTTP/1.1\r\nHost: a\r\nContent-Length: 52\r\n\r\nRIFF,\0\0\0WAVEfmt \x10\0\0\0\x01\0\x02\0\x80\xbb\0\0\0\x77\x01\0\x02\0\x10\0data\x08\0\0\0\0\0\0\x40\0\xc0\x01\0";
 
 const FIRST: &[u8] =
-    b"HTTP/1.1 201 Created\r\nContent-Type: application/json\r\nContent-Length: 39\r\n\r\n{\"frames\":4,\"id\":1,\"sample_peak\":16384}";
+    b"HTTP/1.1 201 Created\r\nContent-Type: application/json\r\nContent-Length: 67\r\n\r\n{\"frames\":4,\"gain\":null,\"id\":1,\"loudness\":null,\"sample_peak\":16384}";
 
 const SECOND: &[u8] =
-    b"HTTP/1.1 201 Created\r\nContent-Type: application/json\r\nContent-Length: 39\r\n\r\n{\"frames\":4,\"id\":2,\"sample_peak\":16384}";
+    b"HTTP/1.1 201 Created\r\nContent-Type: application/json\r\nContent-Length: 67\r\n\r\n{\"frames\":4,\"gain\":null,\"id\":2,\"loudness\":null,\"sample_peak\":16384}";
 
 const BROKEN: &[u8] =
     b"HTTP/1.1 422 Unprocessable Content\r\nContent-Type: application/json\r\nContent-Length: 40\r\n\r\n{\"error\":\"format\",\"place\":0,\"rule\":\"K0\"}";
@@ -54,7 +56,7 @@ const ASK_FIRST: &[u8] = b"GET /recordings/1 HTTP/1.1\r\nHost: a\r\n\r\n";
 const ASK_NINTH: &[u8] = b"GET /recordings/9 HTTP/1.1\r\nHost: a\r\n\r\n";
 
 const FOUND: &[u8] =
-    b"HTTP/1.1 200 OK\r\nContent-Type: application/json\r\nContent-Length: 39\r\n\r\n{\"frames\":4,\"id\":1,\"sample_peak\":16384}";
+    b"HTTP/1.1 200 OK\r\nContent-Type: application/json\r\nContent-Length: 67\r\n\r\n{\"frames\":4,\"gain\":null,\"id\":1,\"loudness\":null,\"sample_peak\":16384}";
 
 const MISSING: &[u8] =
     b"HTTP/1.1 404 Not Found\r\nContent-Type: application/json\r\nContent-Length: 24\r\n\r\n{\"error\":\"no-recording\"}";
@@ -212,6 +214,59 @@ fn outcome_of(
         keeper,
         vault,
     })
+}
+
+/// The import of 19,200 frames of one channel, before its samples.
+const SILENT_HEAD: &[u8] =
+    b"POST /recordings HTTP/1.1\r\nContent-Length: 38444\r\n\r\nRIFF\x24\x96\0\0WAVEfmt \x10\0\0\0\x01\0\x01\0\x80\xbb\0\0\0\x77\x01\0\x02\0\x10\0data\0\x96\0\0";
+
+/// The import of 19,200 frames of two channels, before its samples.
+const LOUD_HEAD: &[u8] =
+    b"POST /recordings HTTP/1.1\r\nContent-Length: 76844\r\n\r\nRIFF\x24\x2c\x01\0WAVEfmt \x10\0\0\0\x01\0\x02\0\x80\xbb\0\0\0\xee\x02\0\x04\0\x10\0data\0\x2c\x01\0";
+
+/// What is answered to both. The loudness was computed from the definition by a script in whole
+/// numbers: the left channel alone would have -520, the right one alone -1210.
+const MEASURED: &[u8] =
+    b"HTTP/1.1 201 Created\r\nContent-Type: application/json\r\nContent-Length: 67\r\n\r\n{\"frames\":19200,\"gain\":null,\"id\":1,\"loudness\":null,\"sample_peak\":0}HTTP/1.1 201 Created\r\nContent-Type: application/json\r\nContent-Length: 72\r\n\r\n{\"frames\":19200,\"gain\":-1361,\"id\":2,\"loudness\":-439,\"sample_peak\":16384}";
+
+/// A sample of a square wave that changes every `half` frames.
+fn square(high: i16, low: i16, half: usize, frame: usize) -> i16
+    requires { 0 < half }
+{
+    if frame / half % 2 == 0 { high } else { low }
+}
+
+/// Silence on one channel, and then square waves on two: 1 kHz at half of full scale on the left,
+/// 400 Hz at a quarter on the right.
+fn silent_and_loud(alloc: Global) -> Result<Vec<u8>, Memory> {
+    let mut input = Vec::new(alloc);
+    input.extend_from_slice(SILENT_HEAD)?;
+    for _ in 0..38_400 {
+        input.push(0)?;
+    }
+    input.extend_from_slice(LOUD_HEAD)?;
+    for frame in 0..19_200 {
+        let left = square(16_384, -16_384, 24, frame);
+        let right = square(8_192, -8_192, 60, frame);
+        input.extend_from_slice(left.to_le_bytes().as_slice())?;
+        input.extend_from_slice(right.to_le_bytes().as_slice())?;
+    }
+    Ok(input)
+}
+
+#[test]
+fn two_files_are_measured(rt: HostRuntime) -> Result<(), Fail> {
+    let alloc = rt.alloc();
+    let got = outcome_of(
+        alloc,
+        repeated(alloc, "session", 1)?,
+        silent_and_loud(alloc)?,
+        Tables::empty(alloc),
+        Fault::Nowhere,
+    )?;
+    assert_eq!(rt; got.status, 0);
+    assert_eq!(rt; got.sink.written(), MEASURED);
+    Ok(())
 }
 
 #[test]

@@ -1,0 +1,38 @@
+-- A file is found to be one thing, with one summary.
+use Rattle.std.proofs.Common.{◌≡◌, ◌*◌, ℕ, List, Option, None, refl, ap, ◌∙◌, sym, subst}
+use Rattle.std.specs.Prelude.{ℤ, option_map}
+use Rattle.lib_base.specs.declared.files.Summary.{Summary}
+use Rattle.file_model.specs.Pcm.{Pcm}
+use Rattle.file_model.specs.Reading.{Reading, Reads, accepted, broken}
+use Rattle.file_model.proofs.Readings.{Reads_unique}
+use Rattle.sound_model.specs.Blocks.{blocks_of}
+use Rattle.sound_model.specs.Summaries.{gain_of}
+use Rattle.sound_model.proofs.SummaryLaws.{IsLoudness-unique}
+use Rattle.library_model.specs.Findings.{IsSummaryOf, Finding, Finds, measured, broken_by, energies_of}
+
+same_summary : (a b : Summary) → a.frames ≡ b.frames → a.loudness ≡ b.loudness → a.range ≡ b.range → a.momentary ≡ b.momentary
+    → a.short_term ≡ b.short_term → a.true_peak ≡ b.true_peak → a.peak ≡ b.peak → a.gain ≡ b.gain → a ≡ b
+same_summary a b frames loudness range momentary short_term true_peak peak gain = rw (frames, loudness, range, momentary, short_term, true_peak, peak, gain) refl
+
+-- a sound has one summary
+pub IsSummaryOf-unique : (sound : Pcm) (a b : Summary) → IsSummaryOf sound a → IsSummaryOf sound b → a ≡ b
+IsSummaryOf-unique sound a b x y =
+    let loudness = IsLoudness-unique (blocks_of (energies_of sound)) a.loudness b.loudness x.loudness y.loudness in
+    same_summary a b (x.counted ∙ sym y.counted) loudness (x.no_range ∙ sym y.no_range) (x.no_momentary ∙ sym y.no_momentary)
+    (x.no_short_term ∙ sym y.no_short_term) (x.no_true_peak ∙ sym y.no_true_peak) (x.size ∙ sym y.size)
+    (x.gain ∙ ap (λ (loudness : Option ℤ). option_map gain_of loudness) loudness ∙ sym y.gain)
+
+-- a file is found to be one thing
+pub Finds_unique : (file : List ℕ) (f g : Finding) → Finds file f → Finds file g → f ≡ g
+Finds_unique file (measured sound summary) (measured other levels) x y =
+    let one : accepted sound ≡ accepted other = Reads_unique file (accepted sound) (accepted other) x.0 y.0 in
+    let same : sound ≡ other = cc one in
+    let OfSound : Pcm → Type 0 = λ p. IsSummaryOf p summary in
+    ap (λ (p : Pcm). measured p summary) same
+    ∙ ap (measured other) (IsSummaryOf-unique other summary levels (subst OfSound same x.1) y.1)
+Finds_unique file (measured sound summary) (broken_by rule place) x y =
+    let one : accepted sound ≡ broken rule place = Reads_unique file (accepted sound) (broken rule place) x.0 y in cc one
+Finds_unique file (broken_by rule place) (measured sound summary) x y =
+    let one : accepted sound ≡ broken rule place = Reads_unique file (accepted sound) (broken rule place) y.0 x in cc one
+Finds_unique file (broken_by rule place) (broken_by other where_) x y =
+    let one : broken rule place ≡ broken other where_ = Reads_unique file (broken rule place) (broken other where_) x y in cc one

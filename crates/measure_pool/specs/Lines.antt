@@ -1,0 +1,18 @@
+-- What a line stands for.
+use Rattle.std.specs.Prelude.{ℕ, ℤ, List}
+use Rattle.sound_model.specs.Weighted.{weighted}
+use Rattle.k_filter.specs.Fed as filter
+use Rattle.gate_blocks.specs.Meters as meter
+use Rattle.measure_pool.specs.declared.lines.Line.{Line}
+
+-- the line was fed these samples: its filter was, and its meter their weighted list
+pub record IsFed (line : Line) (depth : ℕ) (fed : List ℤ) : Type 0 where
+  pub filter : filter.WasFed line.filter depth fed
+  pub meter : meter.WasFed line.meter (weighted depth fed)
+
+-- how many samples the line was fed, and how many it has room for
+abbrev pub fed_count : Line → ℕ
+fed_count line = line.meter.count
+
+abbrev pub room_of : Line → ℕ
+room_of line = line.meter.frames
