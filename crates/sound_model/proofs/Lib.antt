@@ -1,2 +1,3 @@
 pub mod PeakRows
+pub mod PeakStretches
 pub mod WeightedRows
