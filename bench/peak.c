@@ -39,11 +39,13 @@ static int64_t feed(const int64_t *samples, int count, int64_t greatest) {
 
 int main(int count, char **words) {
     long rounds = count > 2 ? atol(words[2]) : 1;
+    int fading = count > 1 && strcmp(words[1], "fading") == 0;
     int64_t *room = calloc(REACH + ROUND, sizeof *room), *samples = room + REACH;
     uint32_t state = 1;
     for (int i = 0; i < ROUND; i++) {
         state = state * 1664525u + 1013904223u;
-        samples[i] = ((int64_t)(state >> 16) - 32768) * 256;
+        int32_t sample = (int32_t)(state >> 16) - 32768;
+        samples[i] = (fading ? sample >> (i % 12000 / 1500) : sample) * 256LL;
     }
     int64_t greatest = 0;
     for (long round = 0; round < rounds; round++) {

@@ -45,3 +45,4 @@ compare() {
 compare filter 1000 "$work/filter_fast" "C with the same floor division"
 compare filter 200 "$work/filter_plain" "C with the division of 128 bits"
 compare peak 200 "$work/peak" "C"
+compare fading 200 "$work/peak" "C (the peak of noise that fades four times a second)"

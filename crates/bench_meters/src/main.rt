@@ -4,7 +4,7 @@
 //! definition prints too: of the filter a checksum of the last round, of the peak the peak.
 #![tactic(auto)]
 
-ghost use Rattle.std.specs.Prelude.{◌≡◌, ◌≤◌, length, IfOk, All, vec_len};
+ghost use Rattle.std.specs.Prelude.{◌<◌, IfOk, All};
 ghost use Rattle.lib_base.specs.Sounds.{IsSample};
 
 use anyhow::{Result, bail};
@@ -27,6 +27,7 @@ fn main(rt: HostRuntime) -> Result<()> {
     let checksum = match meter.as_str() {
         "filter" => filtered(alloc, samples.as_slice(), rounds)?,
         "peak" => peak_of_rounds(samples.as_slice(), rounds),
+        "fading" => peak_of_rounds(faded(alloc, samples.as_slice())?.as_slice(), rounds),
         _ => bail!("no such meter"),
     };
     println!(rt; "{checksum}")?;
@@ -50,6 +51,26 @@ fn upper_half(state: u32) -> i32
     ensures { IsSample 16 result }
 {
     (state >> 16) as i32 - 32_768
+}
+
+/// The samples, halved every 1,500 of them, and loud again every 12,000.
+fn faded(alloc: Global, samples: &[i32]) -> Result<Vec<i32>, AllocError>
+    requires { All (IsSample 16) samples.now }
+    ensures { IfOk result (λ v. All (IsSample 16) v.items) }
+{
+    let mut faded = Vec::new(alloc);
+    for (place, sample) in samples.iter().enumerate() {
+        faded.push(halved(*sample, (place % 12_000 / 1_500) as u32))?;
+    }
+    Ok(faded)
+}
+
+fn halved(sample: i32, times: u32) -> i32
+    requires sample { IsSample 16 sample }
+    requires times { times < 8 }
+    ensures { IsSample 16 result }
+{
+    sample >> times
 }
 
 /// Feeds the samples to one filter so many times over.

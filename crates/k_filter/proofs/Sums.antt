@@ -1,8 +1,10 @@
 -- The sums of the sections, in the order in which the code takes their parts.
-use Rattle.std.proofs.Common.{◌≡◌, ◌*◌, ◌^◌, ℤ, pos, neg_ℤ, ◌+ℤ◌, ◌-ℤ◌, ◌*ℤ◌, ◌≤ℤ◌, ◌<ℤ◌, ◌∙◌, ap, sym, arith}
+use Rattle.std.proofs.Common.{◌≡◌, ◌≤◌, ◌<◌, ◌*◌, ◌^◌, ℤ, pos, neg_ℤ, ◌+ℤ◌, ◌-ℤ◌, ◌*ℤ◌, ◌≤ℤ◌, ◌<ℤ◌, ◌∙◌, ap, sym, arith, lit≤, unsigned_abs}
 use Rattle.std.specs.Int.{int_div_euclid}
-use Rattle.std.proofs.lemmas.Int.{ints}
+use Rattle.std.proofs.lemmas.Int.{ints, unsigned_abs-mul}
+use Rattle.std.proofs.lemmas.Nat.{mul-le}
 use Rattle.sound_model.specs.Weighted.{shelf, high_pass, next_output, held}
+use Rattle.k_filter.specs.Bounds.{HasSmallProducts}
 
 shelf_regrouped : (x0 x1 x2 u1 u2 : ℤ)
     → (shelf.b0 *ℤ x0) +ℤ (shelf.b1 *ℤ x1) +ℤ (shelf.b2 *ℤ x2) +ℤ ((neg_ℤ shelf.a2 *ℤ u2) +ℤ pos (5 * 10 ^ 13)) +ℤ (neg_ℤ shelf.a1 *ℤ u1)
@@ -53,3 +55,30 @@ high_pass_next x0 x1 x2 u1 u2 whole rest units is_whole is_rest is_units =
     ap (held (2 ^ 50))
     (ap (λ (z : ℤ). whole +ℤ z) is_units ∙ sym (div-add_whole whole rest)
     ∙ ap floor (ap (λ (z : ℤ). (pos (10 ^ 14) *ℤ z) +ℤ rest) is_whole ∙ ap (λ (z : ℤ). (pos (10 ^ 14) *ℤ (((x0 -ℤ x1) -ℤ (x1 -ℤ x2)) +ℤ (u1 +ℤ (u1 -ℤ u2)))) +ℤ z) is_rest ∙ sym (high_pass_regrouped x0 x1 x2 u1 u2)))
+
+-- a coefficient by a value within the clamp
+small_product : (coefficient value : ℤ) → unsigned_abs coefficient ≤ 2 ^ 48 → unsigned_abs value ≤ 2 ^ 50 → unsigned_abs (coefficient *ℤ value) < 2 ^ 102
+small_product coefficient value small_coefficient small_value =
+    let apart = unsigned_abs-mul coefficient value in
+    let most = mul-le (unsigned_abs coefficient) (unsigned_abs value) (2 ^ 48) (2 ^ 50) small_coefficient small_value in
+    omega arith
+
+pub shelf_products : (x0 x1 x2 u1 u2 : ℤ) → unsigned_abs x0 ≤ 2 ^ 50 → unsigned_abs x1 ≤ 2 ^ 50 → unsigned_abs x2 ≤ 2 ^ 50
+    → unsigned_abs u1 ≤ 2 ^ 50 → unsigned_abs u2 ≤ 2 ^ 50 → HasSmallProducts shelf x0 x1 x2 u1 u2
+shelf_products x0 x1 x2 u1 u2 h0 h1 h2 k1 k2 = record {
+  b0 = small_product shelf.b0 x0 (lit≤ tt) h0;
+  b1 = small_product shelf.b1 x1 (lit≤ tt) h1;
+  b2 = small_product shelf.b2 x2 (lit≤ tt) h2;
+  a1 = small_product shelf.a1 u1 (lit≤ tt) k1;
+  a2 = small_product shelf.a2 u2 (lit≤ tt) k2;
+}
+
+pub high_pass_products : (x0 x1 x2 u1 u2 : ℤ) → unsigned_abs x0 ≤ 2 ^ 50 → unsigned_abs x1 ≤ 2 ^ 50 → unsigned_abs x2 ≤ 2 ^ 50
+    → unsigned_abs u1 ≤ 2 ^ 50 → unsigned_abs u2 ≤ 2 ^ 50 → HasSmallProducts high_pass x0 x1 x2 u1 u2
+high_pass_products x0 x1 x2 u1 u2 h0 h1 h2 k1 k2 = record {
+  b0 = small_product high_pass.b0 x0 (lit≤ tt) h0;
+  b1 = small_product high_pass.b1 x1 (lit≤ tt) h1;
+  b2 = small_product high_pass.b2 x2 (lit≤ tt) h2;
+  a1 = small_product high_pass.a1 u1 (lit≤ tt) k1;
+  a2 = small_product high_pass.a2 u2 (lit≤ tt) k2;
+}

@@ -1,6 +1,7 @@
 //! The next output of each of the two sections.
 ghost use Rattle.std.specs.Prelude.{◌≡◌, ◌≤◌, ◌<◌, ◌^◌, ◌*◌, ℤ, pos, neg_ℤ, ◌*ℤ◌, ◌+ℤ◌, ◌-ℤ◌, unsigned_abs};
 ghost use Rattle.sound_model.specs.Weighted.{next_output, shelf, high_pass};
+ghost use Rattle.k_filter.specs.Bounds.{HasSmallProducts};
 
 use crate::rounding::{difference, held_output, product, sum, whole_units};
 
@@ -35,6 +36,7 @@ pub fn shelf_output(input: i64, inputs: Recent, outputs: Recent) -> i64
     requires output_before { unsigned_abs outputs.before ≤ 2 ^ 50 }
     ensures value { result
         ≡ next_output shelf input inputs.last inputs.before outputs.last outputs.before }
+    ensures products { HasSmallProducts shelf input inputs.last inputs.before outputs.last outputs.before }
     ensures small { unsigned_abs result ≤ 2 ^ 50 }
 {
     held_output(whole_units(shelf_sum(input, inputs, outputs)))
@@ -53,6 +55,7 @@ pub fn high_pass_output(input: i64, inputs: Recent, outputs: Recent) -> i64
     requires output_before { unsigned_abs outputs.before ≤ 2 ^ 50 }
     ensures value { result
         ≡ next_output high_pass input inputs.last inputs.before outputs.last outputs.before }
+    ensures products { HasSmallProducts high_pass input inputs.last inputs.before outputs.last outputs.before }
     ensures small { unsigned_abs result ≤ 2 ^ 50 }
 {
     let whole = high_pass_whole(input, inputs, outputs);

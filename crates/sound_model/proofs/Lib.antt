@@ -2,6 +2,7 @@ mod GateRows
 pub mod LevelLaws
 pub mod LevelTable
 pub mod PeakRows
+pub mod PeakStretches
 pub mod RangeLaws
 pub mod SummaryLaws
 pub mod WeightedRows

@@ -1,5 +1,6 @@
 pub mod Dots
 pub mod Hearing
+pub mod Lows
 pub mod Places
 pub mod Scales
 pub mod Shifts

@@ -1,16 +1,22 @@
 //! A run over places, which keeps the greatest size so far.
-ghost use Rattle.std.specs.Prelude.{◌≡◌, ◌≤◌, ◌<◌, ◌+◌, ◌-◌, ◌^◌, ℕ, ℤ, pos, List, length, All, unsigned_abs};
+ghost use Rattle.std.specs.Prelude.{◌≡◌, ◌≤◌, ◌<◌, ◌+◌, ◌-◌, ◌*◌, ◌^◌, ℕ, ℤ, pos, List, length, take, max, All, IsTrue, ◌↔◌, unsigned_abs};
 ghost use Rattle.lib_base.specs.Sounds.{IsSample, part};
 ghost use Rattle.sound_model.specs.Peaks.{scaled, sample_before};
-ghost use Rattle.true_peak.specs.Windows.{history_at};
+ghost use Rattle.true_peak.specs.Windows.{history_at, size_after};
 
 use crate::history::History;
 
 /// A run over places.
+///
+/// No place can raise the peak where its twelve samples are low: 16571, the greatest sum of a phase's
+/// taps, times each is at most the peak so far. So the last samples that are low are counted.
 #[derive(Clone, Copy, Debug)]
 pub struct Run {
     pub history: History,
     pub greatest: u64,
+    low: u8,
+    ghost few: { low ≤ 11 },
+    ghost are_low: { All (λ v. 16571 * unsigned_abs v ≤ greatest) (take low history.before) },
 }
 
 impl Run {
@@ -23,6 +29,7 @@ impl Run {
         Run {
             history: History::silent(),
             greatest: 0,
+            low: 0,
         }
     }
 
@@ -35,6 +42,7 @@ impl Run {
         Run {
             history,
             greatest: 0,
+            low: 0,
         }
     }
 
@@ -46,10 +54,45 @@ impl Run {
             → value ≡ sample_before depth samples place 0
             → Heard self depth samples first place → Heard result depth samples first (place + 1) }
     {
+        let is_low = self.is_low(value);
         Run {
             history: self.history.after(value),
-            greatest: self.greatest.max(self.history.size(value)),
+            greatest: self.greatest_with(value, is_low),
+            low: self.low_with(is_low),
         }
+    }
+
+    /// Whether a sample can't raise the peak with others that are low.
+    #[inline(always)]
+    fn is_low(self, value: i64) -> bool
+        requires { unsigned_abs value ≤ 2 ^ 23 }
+        ensures { IsTrue result ↔ (16571 * unsigned_abs value ≤ self.greatest) }
+    {
+        16_571 * value.unsigned_abs() <= self.greatest
+    }
+
+    /// The greatest size with the next place.
+    #[inline(always)]
+    fn greatest_with(self, value: i64, is_low: bool) -> u64
+        requires small { unsigned_abs value ≤ 2 ^ 23 }
+        requires low { IsTrue is_low → 16571 * unsigned_abs value ≤ self.greatest }
+        ensures { result ≡ max self.greatest (size_after value self.history.before) }
+    {
+        if is_low && self.low == 11 {
+            self.greatest
+        } else {
+            self.greatest.max(self.history.size(value))
+        }
+    }
+
+    /// How many of the last samples are low, with one more.
+    #[inline(always)]
+    fn low_with(self, is_low: bool) -> u8
+        ensures few { result ≤ 11 }
+        ensures more { result ≤ self.low + 1 }
+        ensures some { 0 < result → IsTrue is_low }
+    {
+        if is_low { (self.low + 1).min(11) } else { 0 }
     }
 
     /// The run over the places of these samples of `depth` bits.
@@ -75,11 +118,11 @@ impl Run {
             → (0 < count → length all ≤ place)
             → Heard self depth all first place → Heard result depth all first (place + count) }
     {
-        let mut run = self;
+        let mut passed = self;
         for _i in 0..count {
-            run = run.over(0);
+            passed = passed.over(0);
         }
-        run
+        passed
     }
 }
 

@@ -1,8 +1,8 @@
-use Rattle.std.proofs.Common.{◌∙◌, ◌^◌, ap, rules, w64, FitsSigned}
+use Rattle.std.proofs.Common.{◌∙◌, ◌^◌, ap, rules, arith, w64, FitsSigned}
 use Rattle.std.specs.Int.{w128}
 use Rattle.std.proofs.lemmas.Int.{to_z-of_z}
 use Rattle.sound_model.specs.Weighted.{held}
-use Rattle.k_filter.proofs.Sums.{high_pass_next}
+use Rattle.k_filter.proofs.Sums.{high_pass_next, high_pass_products}
 use Rattle.k_filter.proofs.sections.high_pass_output.Goals as goal
 
 pub returns-clause-value : goal.returns-clause-value
@@ -20,3 +20,8 @@ returns-clause-value c =
     to_z-of_z w64 _ held_fits ∙ output ∙ ap (held (2 ^ 50)) sum
     ∙ high_pass_next c.args.input c.args.inputs.last c.args.inputs.before c.args.outputs.last c.args.outputs.before
     c.high_pass_whole-whole.result c.high_pass_rest.result c.whole_units.result whole c.high_pass_rest.ensures.value units
+
+pub returns-clause-products : goal.returns-clause-products
+returns-clause-products c =
+    high_pass_products c.args.input c.args.inputs.last c.args.inputs.before c.args.outputs.last c.args.outputs.before
+    (omega arith) (omega arith) (omega arith) c.requires.last_output c.requires.output_before

@@ -1,7 +1,7 @@
-use Rattle.std.proofs.Common.{◌∙◌, rules, w64, FitsSigned}
+use Rattle.std.proofs.Common.{◌∙◌, rules, arith, w64, FitsSigned}
 use Rattle.std.specs.Int.{w128}
 use Rattle.std.proofs.lemmas.Int.{to_z-of_z}
-use Rattle.k_filter.proofs.Sums.{shelf_next}
+use Rattle.k_filter.proofs.Sums.{shelf_next, shelf_products}
 use Rattle.k_filter.proofs.sections.shelf_output.Goals as goal
 
 pub returns-clause-value : goal.returns-clause-value
@@ -16,3 +16,8 @@ returns-clause-value c =
     to_z-of_z w64 _ held_fits ∙ output
     ∙ shelf_next c.args.input c.args.inputs.last c.args.inputs.before c.args.outputs.last c.args.outputs.before
     c.shelf_sum.result c.whole_units.result total whole
+
+pub returns-clause-products : goal.returns-clause-products
+returns-clause-products c =
+    shelf_products c.args.input c.args.inputs.last c.args.inputs.before c.args.outputs.last c.args.outputs.before
+    (omega arith) (omega arith) (omega arith) c.requires.last_output c.requires.output_before

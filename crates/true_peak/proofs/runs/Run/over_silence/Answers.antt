@@ -11,11 +11,11 @@ loop-i-preserved c = λ depth all first place order past heard.
     let i = c.loop-i._i in
     let some : 0 < c.args.count = omega arith in
     let beyond : length all ≤ place = past some in
-    Heard-at c.over-run.result depth all first (place + i + 1) (place + (i + 1)) (omega arith)
-    (c.over-run.ensures depth all first (place + i) (omega (arith, order)) (sym (sample_past depth all (place + i) (omega (arith, beyond))))
+    Heard-at c.over-passed.result depth all first (place + i + 1) (place + (i + 1)) (omega arith)
+    (c.over-passed.ensures depth all first (place + i) (omega (arith, order)) (sym (sample_past depth all (place + i) (omega (arith, beyond))))
     (c.loop-i.invariant depth all first place order past heard))
 
 pub returns : goal.returns
 returns c = λ depth all first place order past heard.
-    Heard-at c.loop-i.run depth all first (place + c.loop-i._i) (place + c.args.count) (omega arith)
+    Heard-at c.loop-i.passed depth all first (place + c.loop-i._i) (place + c.args.count) (omega arith)
     (c.loop-i.invariant depth all first place order past heard)
