@@ -21,15 +21,15 @@ pub(crate) fn gated_power(blocks: &[u128]) -> Option<u128>
     ensures positive { IfSome result (λ p. 0 < p) }
     ensures within { IfSome result (λ p. p ≤ 4 * greatest_energy) }
 {
-    let kept = near(blocks, audible(blocks));
+    let kept = tally_near(blocks, tally_audible(blocks));
     if kept.count == 0 {
         return None;
     }
     Some(kept.sum / kept.count)
 }
 
-/// The blocks above -70 LUFS.
-fn audible(blocks: &[u128]) -> Tally
+/// Tallies the blocks above -70 LUFS.
+fn tally_audible(blocks: &[u128]) -> Tally
     requires { AreBlocks blocks.now }
     ensures { IsTallyOf (filter is_audible blocks.now) result.count result.sum }
 {
@@ -43,8 +43,8 @@ fn audible(blocks: &[u128]) -> Tally
     kept
 }
 
-/// Of these the blocks above their mean less 10 LU.
-fn near(blocks: &[u128], audible: Tally) -> Tally
+/// Tallies those of them that are above their mean less 10 LU.
+fn tally_near(blocks: &[u128], audible: Tally) -> Tally
     requires blocks { AreBlocks blocks.now }
     requires audible { IsTallyOf (filter is_audible blocks.now) audible.count audible.sum }
     ensures { IsTallyOf (gated blocks.now) result.count result.sum }

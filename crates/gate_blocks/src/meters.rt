@@ -7,10 +7,10 @@ use lib_base::Memory;
 use std::alloc::Global;
 use std::marker::Model;
 
-/// How many samples a segment has: 0.1 s at 48,000 Hz (BS.1770-4 Annex 1).
+/// How many values a segment has: 0.1 s at 48,000 Hz (BS.1770-4 Annex 1).
 const SEGMENT: usize = 4800;
 
-/// Sums the squares of weighted samples of one channel, over each whole segment of 4,800.
+/// Sums the squares of the weighted values of one channel, over each whole segment of 4,800.
 #[derive(Debug, Drop)]
 pub struct SegmentMeter {
     energies: Vec<u128>,
@@ -55,7 +55,8 @@ impl SegmentMeter {
         })
     }
 
-    /// Takes further samples. It takes no memory.
+    /// Takes further values, within 2^30 each and no more in all than `frames`. It takes no memory:
+    /// `new` made the room.
     pub fn feed(&mut self, filtered: &[i32])
         requires room { self.old.count + length filtered.now ≤ self.old.frames }
         requires within { All IsWeighted filtered.now }
@@ -72,7 +73,7 @@ impl SegmentMeter {
         }
     }
 
-    /// Takes samples that lie in one segment.
+    /// Takes values that lie in one segment.
     fn take_piece(&mut self, piece: &[i32])
         requires room { self.old.count + length piece.now ≤ self.old.frames }
         requires one_segment { self.old.count % 4800 + length piece.now ≤ 4800 }
@@ -110,7 +111,7 @@ fn append(energies: &mut Vec<u128>, energy: u128)
     }
 }
 
-/// The sum of the squares of samples of at most one segment.
+/// The sum of the squares of values of at most one segment.
 fn squares_of(piece: &[i32]) -> u128
     requires few { length piece.now ≤ 4800 }
     requires within { All IsWeighted piece.now }
@@ -118,17 +119,17 @@ fn squares_of(piece: &[i32]) -> u128
     ensures bound { result ≤ length piece.now * 2 ^ 60 }
 {
     let mut sum = 0;
-    for sample in piece {
-        sum += u128::from(squared(*sample));
+    for value in piece {
+        sum += u128::from(squared(*value));
     }
     sum
 }
 
-fn squared(sample: i32) -> u64
-    requires { IsWeighted sample }
-    ensures value { result ≡ square sample }
+fn squared(value: i32) -> u64
+    requires { IsWeighted value }
+    ensures squared { result ≡ square value }
     ensures bound { result ≤ 2 ^ 60 }
 {
-    let size = u64::from(sample.unsigned_abs());
+    let size = u64::from(value.unsigned_abs());
     size * size
 }

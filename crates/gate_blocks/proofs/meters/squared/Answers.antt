@@ -2,6 +2,6 @@ use Rattle.std.proofs.Common.{rules}
 use Rattle.sound_model.specs.Segments.{square}
 use Rattle.gate_blocks.proofs.meters.squared.Goals as goal
 
-pub returns-clause-value : goal.returns-clause-value
+pub returns-clause-squared : goal.returns-clause-squared
 unfolding square
-returns-clause-value c = search rules
+returns-clause-squared c = search rules

@@ -3,7 +3,7 @@ use Rattle.std.specs.Prelude.{filter, ◌&&◌}
 use Rattle.sound_model.specs.Loudness.{is_audible, is_near}
 use Rattle.sound_model.specs.Segments.{greatest_energy}
 use Rattle.gate_blocks.specs.Bounds.{IsTallyOf}
-use Rattle.gate_blocks.proofs.gates.near.Given as goal
+use Rattle.gate_blocks.proofs.gates.tally_near.Given as goal
 
 abbrev pub invariant-loop-energy : goal.invariant-loop-energy
 invariant-loop-energy l = record {

@@ -1,7 +1,7 @@
 use Rattle.std.proofs.Common.{◌^◌}
 use Rattle.sound_model.specs.Loudness.{is_audible}
 use Rattle.gate_blocks.proofs.Gating.{tally_few, tally_gated}
-use Rattle.gate_blocks.proofs.gates.near.Goals as goal
+use Rattle.gate_blocks.proofs.gates.tally_near.Goals as goal
 
 pub passes_both-requires-clause-count : goal.passes_both-requires-clause-count
 passes_both-requires-clause-count c =
