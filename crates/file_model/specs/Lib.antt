@@ -1,5 +1,8 @@
 pub mod Channels
+pub mod Chunks
+pub mod Format
 pub mod Pcm
 pub mod Reading
+pub mod Rules
 pub mod Sizes
 pub mod Wave
