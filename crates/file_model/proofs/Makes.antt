@@ -97,10 +97,10 @@ part_and_rest xs at count p rest is follows =
     sym (take-append-drop count (drop at xs)) ∙ ap (λ (front : List ℕ). front ++ drop count (drop at xs)) is
     ∙ ap (λ (back : List ℕ). p ++ back) (drop-drop count at xs ∙ follows)
 
-AreBytes-part : (bytes : List ℕ) (at count : ℕ) → AreBytes bytes → AreBytes (part bytes at count)
+pub AreBytes-part : (bytes : List ℕ) (at count : ℕ) → AreBytes bytes → AreBytes (part bytes at count)
 AreBytes-part bytes at count are = AreBytes-take count (drop at bytes) (AreBytes-drop at bytes are)
 
-number_fits : (bytes : List ℕ) (at : ℕ) → AreBytes bytes → number_at bytes at < 2 ^ 32
+pub number_fits : (bytes : List ℕ) (at : ℕ) → AreBytes bytes → number_at bytes at < 2 ^ 32
 number_fits bytes at are =
     let four = AreBytes-part bytes at 4 are in
     let a = four 0 in let b = four 1 in let c = four 2 in let d = four 3 in omega (arith, a, b, c, d)

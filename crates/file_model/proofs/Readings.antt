@@ -1,7 +1,7 @@
 -- A file reads as one thing.
 use Rattle.lib_base.specs.Sounds.{part}
 use Rattle.file_model.specs.Wave.{IsNear}
-use Rattle.std.proofs.Common.{◌≡◌, ◌≢◌, ◌<◌, ◌≤◌, ◌+◌, ◌-◌, ◌%◌, ◌⊎◌, inl, inr, ℕ, Bool, true, false, List, [], ◌∷◌, length, drop, refl, ap, ◌∙◌, sym, subst, arith}
+use Rattle.std.proofs.Common.{◌≡◌, ◌≢◌, ◌<◌, ◌≤◌, ◌+◌, ◌-◌, ◌%◌, ◌⊎◌, inl, inr, ℕ, zero, suc, Bool, true, false, List, [], ◌∷◌, length, drop, refl, ap, ◌∙◌, sym, subst, arith}
 use Rattle.std.specs.Prelude.{codes, Option, Some}
 use Rattle.std.proofs.lemmas.Bool.{cases_lt}
 use Rattle.lib_base.specs.declared.outcomes.Rule.{Rule}
@@ -11,7 +11,7 @@ use Rattle.file_model.specs.Format.{IsShortFormat, IsOtherFormat, HasOtherChanne
 use Rattle.file_model.specs.Reading.{Reading, accepted, broken, Reads, IsBroken}
 use Rattle.file_model.specs.Rules.{if◌says◌else◌, IsNoRiff, IsOtherForm, HasOtherSize, Lacks, IsCutAt, FormatIs, HasPartFrame, HasShortBext, ChunksBreak, ChunksOfBreak, Breaks, BreaksNoneBelow}
 use Rattle.file_model.proofs.Spellings.{Begins_unique, chunks_unique}
-use Rattle.file_model.proofs.Waves.{IsWave_unique, one_placed}
+use Rattle.file_model.proofs.Waves.{IsWave_unique, one_placed, breaks_nothing}
 
 -- a fact holds at one place at most
 abbrev OnePlace : (ℕ → Type 0) → Type 0
@@ -87,3 +87,26 @@ Reads_unique bytes (broken rule place) (broken rule' place') h k =
     let same = IsBroken_unique bytes h.0 k.0 place place' h.2 k.2 in
     let same_rule : rule ≡ rule' = h.1 ∙ ap V same.0 ∙ sym k.1 in
     ap (λ (r : Rule). broken r place) same_rule ∙ ap (broken rule') same.1
+
+-- ---- the rules in turn
+
+pub IsBroken-from : (bytes : List ℕ) (number place : ℕ) → BreaksNoneBelow bytes number → Breaks bytes number place → IsBroken bytes number place
+IsBroken-from bytes number place lower breaks = record {
+  no_wave = λ sound wave. breaks_nothing bytes wave.0 sound number place wave.1 breaks;
+  breaks = breaks;
+  lowest = lower;
+}
+
+pub none_below_1 : (bytes : List ℕ) → BreaksNoneBelow bytes 1
+none_below_1 bytes zero place below breaks = breaks.2
+none_below_1 bytes (suc lower) place below breaks = omega (arith, below)
+
+pub none_below_next : (bytes : List ℕ) (number next : ℕ) → next ≡ number + 1 → BreaksNoneBelow bytes number → ((place : ℕ) → Breaks bytes number place → ⊥)
+    → BreaksNoneBelow bytes next
+none_below_next bytes number next is lower right other place below breaks =
+    elim (cases_lt other number) [
+      | inl less ↦ lower other place less breaks
+      | inr from ↦
+          let same : other ≡ number = omega (arith, is, below, from) in
+          right place (subst (λ (rule : ℕ). Breaks bytes rule place) same breaks)
+    ]

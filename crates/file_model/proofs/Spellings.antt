@@ -27,7 +27,7 @@ number_of_spelling (a ∷ b ∷ c ∷ []) rest count four fits = absurd (omega (
 number_of_spelling (a ∷ b ∷ c ∷ d ∷ e ∷ more) rest count four fits = absurd (omega (arith, four))
 
 -- the parts of a spelling with what follows it
-spelling_apart : (chunk : Chunk) (tail : List ℕ) → spelling chunk ++ tail ≡ chunk.name ++ (four_bytes (length chunk.content) ++ (chunk.content ++ tail))
+pub spelling_apart : (chunk : Chunk) (tail : List ℕ) → spelling chunk ++ tail ≡ chunk.name ++ (four_bytes (length chunk.content) ++ (chunk.content ++ tail))
 spelling_apart chunk tail = simp append_assoc
 
 head_dropped : (name content : List ℕ) (count : ℕ) → length name ≡ 4 → drop 8 (name ++ (four_bytes count ++ content)) ≡ content
