@@ -12,7 +12,8 @@ use Rattle.file_model.specs.Format.{IsFormat, channels_of, depth_of, align_of}
 use Rattle.file_model.specs.Pcm.{Pcm, interleaved}
 use Rattle.file_model.specs.Wave.{IsWaveOf, IsNear, AtMostOneBext, sample_bytes}
 use Rattle.file_model.proofs.Interleaving.{length-first_channels, equal-first_channels, All-first_channels, interleaved-channels}
-use Rattle.file_model.proofs.Samples.{IsDepth, AreBytes, AreBytes-drop, AreBytes-take, samples_in, length-samples_in, bytes-samples_in, All-samples_in}
+use Rattle.file_model.specs.Samples.{samples_in}
+use Rattle.file_model.proofs.Samples.{IsDepth, AreBytes, AreBytes-drop, AreBytes-take, length-samples_in, bytes-samples_in, All-samples_in}
 use Rattle.file_model.proofs.Spellings.{reads_back}
 use Rattle.file_model.proofs.Waves.{sound_in, align_is, size_positive}
 

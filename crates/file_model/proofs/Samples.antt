@@ -9,29 +9,17 @@ use Rattle.std.proofs.lemmas.List.{take_at, drop_at, get_or-drop, take-append-dr
 use Rattle.std.proofs.lemmas.List.Elements.{All-head, All-tail, All-nil, All-cons, All-append, All-map, All-get_or, All-from_get_or}
 use Rattle.lib_base.specs.Sounds.{IsSample}
 use Rattle.file_model.specs.Pcm.{frame_at, interleaved}
+use Rattle.file_model.specs.Samples.{number_in, signed, sample_in, samples_in}
 use Rattle.file_model.specs.Wave.{sample_bytes}
-
--- the number in bytes, the lowest first
-abbrev pub number_in : List ℕ → ℕ
-number_in [] = 0
-number_in (byte ∷ bytes) = byte + 256 * number_in bytes
-
--- a number of so many bits as one with a sign
-abbrev pub signed : ℕ → ℕ → ℤ
-signed depth n = cond (ltb n (2 ^ (depth - 1))) (pos n) (negsuc (2 ^ depth - suc n))
-
--- the sample in some bytes
-abbrev pub sample_in : ℕ → List ℕ → ℤ
-sample_in depth bytes = signed depth (number_in bytes)
 
 -- the depths of a wave
 abbrev pub IsDepth : ℕ → Type 0
 IsDepth depth = (depth ≡ 16) ⊎ (depth ≡ 24)
 
-signed_low : (depth n : ℕ) → n < 2 ^ (depth - 1) → signed depth n ≡ pos n
+pub signed_low : (depth n : ℕ) → n < 2 ^ (depth - 1) → signed depth n ≡ pos n
 signed_low depth n low = ap (λ (b : Bool). cond b (pos n) (negsuc (2 ^ depth - suc n))) (lt-ltb n (2 ^ (depth - 1)) low)
 
-signed_high : (depth n : ℕ) → 2 ^ (depth - 1) ≤ n → signed depth n ≡ negsuc (2 ^ depth - suc n)
+pub signed_high : (depth n : ℕ) → 2 ^ (depth - 1) ≤ n → signed depth n ≡ negsuc (2 ^ depth - suc n)
 signed_high depth n high = ap (λ (b : Bool). cond b (pos n) (negsuc (2 ^ depth - suc n))) (le-ltb n (2 ^ (depth - 1)) high)
 
 -- a negative number, from its two's complement
@@ -78,10 +66,6 @@ read_sample depth x (inr more) within =
 length-sample_bytes : (depth : ℕ) (x : ℤ) → IsDepth depth → length (sample_bytes depth x) ≡ depth / 8
 length-sample_bytes depth x (inl sixteen) = subst (λ (d : ℕ). length (sample_bytes d x) ≡ d / 8) (sym sixteen) refl
 length-sample_bytes depth x (inr more) = subst (λ (d : ℕ). length (sample_bytes d x) ≡ d / 8) (sym more) refl
-
--- the samples in bytes, of so many
-abbrev pub samples_in : ℕ → ℕ → List ℕ → List ℤ
-samples_in depth count bytes = map (sample_in depth) (first_chunks (depth / 8) count bytes)
 
 pub length-samples_in : (depth count : ℕ) (bytes : List ℕ) → length (samples_in depth count bytes) ≡ count
 length-samples_in depth zero bytes = refl

@@ -11,7 +11,8 @@ use Rattle.file_model.specs.Pcm.{Pcm, interleaved}
 use Rattle.file_model.specs.Rules.{if◌says◌else◌, IsNoRiff, IsOtherForm, HasOtherSize, Lacks, IsCutAt, FormatIs, HasPartFrame, HasShortBext, ChunksBreak, ChunksOfBreak, Breaks}
 use Rattle.file_model.specs.Wave.{IsWave, IsWaveOf, IsNear, AtMostOneBext, sample_bytes}
 use Rattle.file_model.proofs.Interleaving.{channels-interleaved, length-interleaved}
-use Rattle.file_model.proofs.Samples.{IsDepth, samples_in, samples_in-bytes, length-bytes, All-interleaved}
+use Rattle.file_model.specs.Samples.{samples_in}
+use Rattle.file_model.proofs.Samples.{IsDepth, samples_in-bytes, length-bytes, All-interleaved}
 use Rattle.file_model.proofs.Spellings.{chunks_unique, not_whole_and_cut}
 
 -- the sound that the contents of a `fmt ` and a `data` chunk hold

@@ -4,5 +4,6 @@ pub mod Format
 pub mod Pcm
 pub mod Reading
 pub mod Rules
+pub mod Samples
 pub mod Sizes
 pub mod Wave

@@ -1,3 +1,4 @@
+pub mod Copies
 pub mod Locating
 pub mod Naming
 pub mod Parting

@@ -9,7 +9,8 @@ use Rattle.file_model.specs.Pcm.{Pcm}
 use Rattle.file_model.specs.Wave.{AtMostOneBext, IsWave}
 use Rattle.file_model.proofs.Interleaving.{length-first_channels}
 use Rattle.file_model.proofs.Makes.{wave_made}
-use Rattle.file_model.proofs.Samples.{AreBytes, samples_in}
+use Rattle.file_model.specs.Samples.{samples_in}
+use Rattle.file_model.proofs.Samples.{AreBytes}
 use Rattle.file_model.proofs.Spellings.{chunks_unique}
 use Rattle.file_model.proofs.Waves.{sound_in, IsWave_unique}
 use Rattle.wave_chunks.specs.declared.chunks.Chunk.{Chunk as Stored}

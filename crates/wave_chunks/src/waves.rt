@@ -180,7 +180,7 @@ fn check_bext(bytes: &[u8], found: Option<Span>) -> Result<(), Refused>
 }
 
 /// The bytes that lie in a span.
-fn content_of(bytes: &[u8], span: Span) -> &[u8]
+pub(crate) fn content_of(bytes: &[u8], span: Span) -> &[u8]
     requires ordered { span.start ≤ span.end }
     requires inside { span.end ≤ length bytes.now }
     ensures { result.now ≡ part bytes.now span.start (span.end - span.start) }
