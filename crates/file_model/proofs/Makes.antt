@@ -1,21 +1,21 @@
 -- What makes a wave file.
-use Rattle.std.proofs.Common.{◌≡◌, ◌<◌, ◌≤◌, ◌^◌, ◌+◌, ◌-◌, ◌*◌, ◌/◌, ◌%◌, ◌⊎◌, inl, inr, ℕ, zero, suc, Bool, true, false, cond, List, [], ◌∷◌, ◌++◌, length, get_or, take, drop, length-drop, length-take, refl, ap, ◌∙◌, sym, subst, arith}
-use Rattle.std.specs.Prelude.{ℤ, All, flat_map, codes, nat_eq}
+use Rattle.std.proofs.Common.{◌≡◌, ◌<◌, ◌≤◌, ◌^◌, ◌+◌, ◌*◌, ◌/◌, ◌%◌, inl, inr, ℕ, Bool, true, false, cond, List, [], ◌∷◌, ◌++◌, length, take, drop, length-drop, length-take, refl, ap, ◌∙◌, sym, subst, arith}
+use Rattle.std.specs.Prelude.{flat_map, codes, nat_eq}
 use Rattle.std.specs.Cmp.Lexicographic.{pointwise}
 use Rattle.std.proofs.Math.Nat.{div-add-mod, div-le_self}
-use Rattle.std.proofs.lemmas.Nat.{le_bytes_4, mul-le}
+use Rattle.std.proofs.lemmas.Nat.{le_bytes_4}
 use Rattle.std.proofs.lemmas.List.{take-append-drop, drop-drop}
 use Rattle.lib_base.specs.Sounds.{part, IsSample, IsSound}
 use Rattle.file_model.specs.Channels.{first_channels}
 use Rattle.file_model.specs.Chunks.{Chunk, Placed, Begins, named_from, next_head, named, number_at, four_bytes}
 use Rattle.file_model.specs.Format.{IsFormat, channels_of, depth_of, align_of}
-use Rattle.file_model.specs.Pcm.{Pcm, interleaved}
+use Rattle.file_model.specs.Pcm.{interleaved}
 use Rattle.file_model.specs.Wave.{IsWaveOf, IsNear, AtMostOneBext, sample_bytes}
 use Rattle.file_model.proofs.Interleaving.{length-first_channels, equal-first_channels, All-first_channels, interleaved-channels}
 use Rattle.file_model.specs.Samples.{samples_in}
 use Rattle.file_model.proofs.Samples.{IsDepth, AreBytes, AreBytes-drop, AreBytes-take, length-samples_in, bytes-samples_in, All-samples_in}
 use Rattle.file_model.proofs.Spellings.{reads_back}
-use Rattle.file_model.proofs.Waves.{sound_in, align_is, size_positive}
+use Rattle.file_model.proofs.Waves.{sound_in, align_is}
 
 -- ---- what holds of each content
 
@@ -65,7 +65,7 @@ made_sound k d n samples known some few short whole are =
     let ys = samples_in d (k * n) samples in
     let count = length-first_channels k k n ys in
     let long = length-samples_in d (k * n) samples in
-    let depths : (4 ≤ d) × (d ≤ 24) = elim known [ | inl sixteen ↦ (omega (arith, sixteen), omega (arith, sixteen)) | inr more ↦ (omega (arith, more), omega (arith, more)) ] in
+    let depths : (4 ≤ d) × (d ≤ 24) = elim known [ inl sixteen ↦ (omega (arith, sixteen), omega (arith, sixteen)) | inr more ↦ (omega (arith, more), omega (arith, more)) ] in
     record {
       has_channel = omega (arith, count, some);
       few_channels = omega (arith, count, few);

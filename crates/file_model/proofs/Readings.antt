@@ -1,15 +1,15 @@
 -- A file reads as one thing.
 use Rattle.lib_base.specs.Sounds.{part}
 use Rattle.file_model.specs.Wave.{IsNear}
-use Rattle.std.proofs.Common.{◌≡◌, ◌≢◌, ◌<◌, ◌≤◌, ◌+◌, ◌-◌, ◌%◌, ◌⊎◌, inl, inr, ℕ, zero, suc, Bool, true, false, List, [], ◌∷◌, length, drop, refl, ap, ◌∙◌, sym, subst, arith}
+use Rattle.std.proofs.Common.{◌≡◌, ◌≢◌, ◌<◌, ◌+◌, ◌-◌, ◌⊎◌, inl, inr, ℕ, zero, suc, Bool, true, false, List, [], length, drop, ap, ◌∙◌, sym, subst, arith}
 use Rattle.std.specs.Prelude.{codes, Option, Some}
 use Rattle.std.proofs.lemmas.Bool.{cases_lt}
 use Rattle.lib_base.specs.declared.outcomes.Rule.{Rule}
 use Rattle.lib_base.specs.declared.outcomes.Rule.TheVariants.{V}
-use Rattle.file_model.specs.Chunks.{Chunk, Placed, Begins, named, first_repeat, number_at}
+use Rattle.file_model.specs.Chunks.{Chunk, Placed, named, first_repeat, number_at}
 use Rattle.file_model.specs.Format.{IsShortFormat, IsOtherFormat, HasOtherChannels, HasOtherRate, HasOtherDepth, HasOtherAlign}
 use Rattle.file_model.specs.Reading.{Reading, accepted, broken, Reads, IsBroken}
-use Rattle.file_model.specs.Rules.{if◌says◌else◌, IsNoRiff, IsOtherForm, HasOtherSize, Lacks, IsCutAt, FormatIs, HasPartFrame, HasShortBext, ChunksBreak, ChunksOfBreak, Breaks, BreaksNoneBelow}
+use Rattle.file_model.specs.Rules.{if◌says◌else◌, IsCutAt, FormatIs, HasPartFrame, HasShortBext, ChunksBreak, ChunksOfBreak, Breaks, BreaksNoneBelow}
 use Rattle.file_model.proofs.Spellings.{Begins_unique, chunks_unique}
 use Rattle.file_model.proofs.Waves.{IsWave_unique, one_placed, breaks_nothing}
 
@@ -72,11 +72,11 @@ IsBroken_unique bytes m n p q one other =
     elim (cases_lt m n) [
       | inl lower ↦ absurd (other.lowest m p lower one.breaks)
       | inr from ↦ elim (cases_lt n m) [
-          | inl lower ↦ absurd (one.lowest n q lower other.breaks)
-          | inr also ↦
-              let same : m ≡ n = omega (arith, from, also) in
-              (same, one_place bytes n p q (subst (λ (rule : ℕ). Breaks bytes rule p) same one.breaks) other.breaks)
-        ]
+        | inl lower ↦ absurd (one.lowest n q lower other.breaks)
+        | inr also ↦
+            let same : m ≡ n = omega (arith, from, also) in
+            (same, one_place bytes n p q (subst (λ (rule : ℕ). Breaks bytes rule p) same one.breaks) other.breaks)
+      ]
     ]
 
 pub Reads_unique : (bytes : List ℕ) (r q : Reading) → Reads bytes r → Reads bytes q → r ≡ q

@@ -1,10 +1,10 @@
 -- Worked files, byte for byte.
-use Rattle.std.proofs.Common.{◌≡◌, ◌≢◌, ◌≤◌, ◌*◌, ◌%◌, ℕ, List, [], ◌∷◌, ◌++◌, length, get_or, inl, inr, refl, ap, lit<, arith}
+use Rattle.std.proofs.Common.{◌≡◌, ◌≤◌, ℕ, List, [], ◌∷◌, ◌++◌, length, inl, inr, refl, lit<, arith}
 use Rattle.std.specs.Prelude.{ℤ, pos, negsuc, All, codes}
 use Rattle.std.proofs.lemmas.Int.{ints}
 use Rattle.std.proofs.lemmas.List.Elements.{All-nil, All-cons, All-from_recursion}
 use Rattle.lib_base.specs.Sounds.{IsSample}
-use Rattle.file_model.specs.Chunks.{Chunk, IsChunk, Begins, named}
+use Rattle.file_model.specs.Chunks.{Chunk, IsChunk}
 use Rattle.file_model.specs.Pcm.{Pcm}
 use Rattle.file_model.specs.Rules.{Breaks}
 use Rattle.file_model.specs.Sizes.{greatest_size, greatest_over}
@@ -46,42 +46,48 @@ short_chunk : (name content : List ℕ) → length name ≡ 4 → length content
 short_chunk name content four short = record { name_length = four; content_fits = omega (arith, short) }
 
 pub four_frames_read : IsWave (four_frames 1) (sixteen_bits 4 (four_samples ∷ []))
-four_frames_read =
-    (chunk (codes "fmt ") (format_content 1 2) ∷ chunk (codes "data") four_content ∷ [],
-    record {
-      size = 44;
-      body = _;
-      written = refl;
-      size_fits = lit< tt;
-      near = (omega arith, omega arith);
-      spelled =
-          ([], _, short_chunk (codes "fmt ") (format_content 1 2) refl (omega arith), refl, inl refl,
-          ([], _, short_chunk (codes "data") four_content refl (omega arith), refl, inl refl, refl));
-      format = record { head = 12; content = format_content 1 2 };
-      data_chunk = record { head = 36; content = four_content };
-      one_format = refl;
-      one_data = refl;
-      one_bext = inl refl;
-      is_format = record {
-        long = omega arith;
-        pcm = inl refl;
-        channels_field = refl;
-        rate_field = refl;
-        depth_field = refl;
-        depth_known = inl refl;
-        align_field = refl;
-      };
-      samples = refl;
-      is_sound = record {
-        has_channel = omega arith;
-        few_channels = omega arith;
-        least_depth = omega arith;
-        greatest_depth = omega arith;
-        short = lit< tt;
-        equal = All-cons (λ (xs : List ℤ). length xs ≡ 4) four_samples [] refl (All-nil (λ (xs : List ℤ). length xs ≡ 4));
-        within = All-cons (λ (xs : List ℤ). All (IsSample 16) xs) four_samples [] four_samples_fit (All-nil (λ (xs : List ℤ). All (IsSample 16) xs));
-      };
-    })
+four_frames_read = (
+  chunk (codes "fmt ") (format_content 1 2) ∷ chunk (codes "data") four_content ∷ [],
+  record {
+    size = 44;
+    body = _;
+    written = refl;
+    size_fits = lit< tt;
+    near = (omega arith, omega arith);
+    spelled = (
+      [],
+      _,
+      short_chunk (codes "fmt ") (format_content 1 2) refl (omega arith),
+      refl,
+      inl refl,
+      ([], _, short_chunk (codes "data") four_content refl (omega arith), refl, inl refl, refl),
+    );
+    format = record { head = 12; content = format_content 1 2 };
+    data_chunk = record { head = 36; content = four_content };
+    one_format = refl;
+    one_data = refl;
+    one_bext = inl refl;
+    is_format = record {
+      long = omega arith;
+      pcm = inl refl;
+      channels_field = refl;
+      rate_field = refl;
+      depth_field = refl;
+      depth_known = inl refl;
+      align_field = refl;
+    };
+    samples = refl;
+    is_sound = record {
+      has_channel = omega arith;
+      few_channels = omega arith;
+      least_depth = omega arith;
+      greatest_depth = omega arith;
+      short = lit< tt;
+      equal = All-cons (λ (xs : List ℤ). length xs ≡ 4) four_samples [] refl (All-nil (λ (xs : List ℤ). length xs ≡ 4));
+      within = All-cons (λ (xs : List ℤ). All (IsSample 16) xs) four_samples [] four_samples_fit (All-nil (λ (xs : List ℤ). All (IsSample 16) xs));
+    };
+  },
+)
 
 pub greatest_of_four : greatest_size four_samples ≡ 16384
 greatest_of_four = refl
@@ -110,43 +116,55 @@ wide_sample_fits : All (IsSample 24) (negsuc 8388607 ∷ [])
 wide_sample_fits = All-from_recursion (IsSample 24) (negsuc 8388607 ∷ []) ((omega (arith, ints), omega (arith, ints)), tt)
 
 pub wide_frame_read : IsWave wide_frame (record { depth = 24; frames = 1; lists = (negsuc 8388607 ∷ []) ∷ [] })
-wide_frame_read =
-    (chunk (codes "LIST") (9 ∷ []) ∷ chunk (codes "fmt ") wide_content ∷ chunk (codes "data") wide_sample ∷ [],
-    record {
-      size = 50;
-      body = _;
-      written = refl;
-      size_fits = lit< tt;
-      near = (omega arith, omega arith);
-      spelled =
-          (7 ∷ [], _, short_chunk (codes "LIST") (9 ∷ []) refl (omega arith), refl, inl refl,
-          ([], _, short_chunk (codes "fmt ") wide_content refl (omega arith), refl, inl refl,
-          ([], _, short_chunk (codes "data") wide_sample refl (omega arith), refl, inr (refl, refl), refl)));
-      format = record { head = 22; content = wide_content };
-      data_chunk = record { head = 46; content = wide_sample };
-      one_format = refl;
-      one_data = refl;
-      one_bext = inl refl;
-      is_format = record {
-        long = omega arith;
-        pcm = inl refl;
-        channels_field = refl;
-        rate_field = refl;
-        depth_field = refl;
-        depth_known = inr refl;
-        align_field = refl;
-      };
-      samples = refl;
-      is_sound = record {
-        has_channel = omega arith;
-        few_channels = omega arith;
-        least_depth = omega arith;
-        greatest_depth = omega arith;
-        short = lit< tt;
-        equal = All-cons (λ (xs : List ℤ). length xs ≡ 1) (negsuc 8388607 ∷ []) [] refl (All-nil (λ (xs : List ℤ). length xs ≡ 1));
-        within = All-cons (λ (xs : List ℤ). All (IsSample 24) xs) (negsuc 8388607 ∷ []) [] wide_sample_fits (All-nil (λ (xs : List ℤ). All (IsSample 24) xs));
-      };
-    })
+wide_frame_read = (
+  chunk (codes "LIST") (9 ∷ []) ∷ chunk (codes "fmt ") wide_content ∷ chunk (codes "data") wide_sample ∷ [],
+  record {
+    size = 50;
+    body = _;
+    written = refl;
+    size_fits = lit< tt;
+    near = (omega arith, omega arith);
+    spelled = (
+      7 ∷ [],
+      _,
+      short_chunk (codes "LIST") (9 ∷ []) refl (omega arith),
+      refl,
+      inl refl,
+      (
+        [],
+        _,
+        short_chunk (codes "fmt ") wide_content refl (omega arith),
+        refl,
+        inl refl,
+        ([], _, short_chunk (codes "data") wide_sample refl (omega arith), refl, inr (refl, refl), refl),
+      ),
+    );
+    format = record { head = 22; content = wide_content };
+    data_chunk = record { head = 46; content = wide_sample };
+    one_format = refl;
+    one_data = refl;
+    one_bext = inl refl;
+    is_format = record {
+      long = omega arith;
+      pcm = inl refl;
+      channels_field = refl;
+      rate_field = refl;
+      depth_field = refl;
+      depth_known = inr refl;
+      align_field = refl;
+    };
+    samples = refl;
+    is_sound = record {
+      has_channel = omega arith;
+      few_channels = omega arith;
+      least_depth = omega arith;
+      greatest_depth = omega arith;
+      short = lit< tt;
+      equal = All-cons (λ (xs : List ℤ). length xs ≡ 1) (negsuc 8388607 ∷ []) [] refl (All-nil (λ (xs : List ℤ). length xs ≡ 1));
+      within = All-cons (λ (xs : List ℤ). All (IsSample 24) xs) (negsuc 8388607 ∷ []) [] wide_sample_fits (All-nil (λ (xs : List ℤ). All (IsSample 24) xs));
+    };
+  },
+)
 
 -- ---- broken files: two frames of one channel in 48 bytes, with an edit
 
@@ -165,31 +183,70 @@ size_is_broken = (λ near. let far = near.1 in omega (arith, far), refl)
 
 -- the `data` chunk says that it has a byte more than there is
 pub cut_is_broken : Breaks (edited 40 2 5 []) 4 36
-cut_is_broken =
-    (chunk (codes "fmt ") (format_content 1 2) ∷ [], codes "data" ++ (5 ∷ 0 ∷ 0 ∷ 0 ∷ two_content),
-    ([], _, short_chunk (codes "fmt ") (format_content 1 2) refl (omega arith), refl, inl refl, refl), omega arith, inr (omega arith), refl)
+cut_is_broken = (
+  chunk (codes "fmt ") (format_content 1 2) ∷ [],
+  codes "data" ++ (5 ∷ 0 ∷ 0 ∷ 0 ∷ two_content),
+  ([], _, short_chunk (codes "fmt ") (format_content 1 2) refl (omega arith), refl, inl refl, refl),
+  omega arith,
+  inr (omega arith),
+  refl,
+)
 
 -- an empty `data` chunk behind the first
 pub repeat_is_broken : Breaks (edited 48 2 4 (codes "data" ++ (0 ∷ 0 ∷ 0 ∷ 0 ∷ []))) 5 48
-repeat_is_broken =
-    (chunk (codes "fmt ") (format_content 1 2) ∷ chunk (codes "data") two_content ∷ chunk (codes "data") [] ∷ [],
-    ([], _, short_chunk (codes "fmt ") (format_content 1 2) refl (omega arith), refl, inl refl,
-    ([], _, short_chunk (codes "data") two_content refl (omega arith), refl, inl refl,
-    ([], [], short_chunk (codes "data") [] refl (omega arith), refl, inl refl, refl))), refl)
+repeat_is_broken = (
+  chunk (codes "fmt ") (format_content 1 2) ∷ chunk (codes "data") two_content ∷ chunk (codes "data") [] ∷ [],
+  (
+    [],
+    _,
+    short_chunk (codes "fmt ") (format_content 1 2) refl (omega arith),
+    refl,
+    inl refl,
+    (
+      [],
+      _,
+      short_chunk (codes "data") two_content refl (omega arith),
+      refl,
+      inl refl,
+      ([], [], short_chunk (codes "data") [] refl (omega arith), refl, inl refl, refl),
+    ),
+  ),
+  refl,
+)
 
 -- four bytes a frame, where there are two
 pub align_is_broken : Breaks (edited 40 4 4 []) 12 32
-align_is_broken =
-    (chunk (codes "fmt ") (format_content 1 4) ∷ chunk (codes "data") two_content ∷ [],
-    ([], _, short_chunk (codes "fmt ") (format_content 1 4) refl (omega arith), refl, inl refl,
-    ([], _, short_chunk (codes "data") two_content refl (omega arith), refl, inl refl, refl)),
-    (record { head = 12; content = format_content 1 4 }, refl, (λ (same : 4 ≡ 2). omega (arith, same)), refl))
+align_is_broken = (
+  chunk (codes "fmt ") (format_content 1 4) ∷ chunk (codes "data") two_content ∷ [],
+  (
+    [],
+    _,
+    short_chunk (codes "fmt ") (format_content 1 4) refl (omega arith),
+    refl,
+    inl refl,
+    ([], _, short_chunk (codes "data") two_content refl (omega arith), refl, inl refl, refl),
+  ),
+  (record { head = 12; content = format_content 1 4 }, refl, (λ (same : 4 ≡ 2). omega (arith, same)), refl),
+)
 
 -- three bytes of data, then a pad byte
 pub frames_are_broken : Breaks (edited 40 2 3 []) 14 36
-frames_are_broken =
-    (chunk (codes "fmt ") (format_content 1 2) ∷ chunk (codes "data") (1 ∷ 0 ∷ 2 ∷ []) ∷ [],
-    ([], _, short_chunk (codes "fmt ") (format_content 1 2) refl (omega arith), refl, inl refl,
-    (0 ∷ [], _, short_chunk (codes "data") (1 ∷ 0 ∷ 2 ∷ []) refl (omega arith), refl, inl refl, refl)),
-    (record { head = 12; content = format_content 1 2 }, record { head = 36; content = 1 ∷ 0 ∷ 2 ∷ [] }, refl, refl,
-    (λ (same : 1 ≡ 0). omega (arith, same)), refl))
+frames_are_broken = (
+  chunk (codes "fmt ") (format_content 1 2) ∷ chunk (codes "data") (1 ∷ 0 ∷ 2 ∷ []) ∷ [],
+  (
+    [],
+    _,
+    short_chunk (codes "fmt ") (format_content 1 2) refl (omega arith),
+    refl,
+    inl refl,
+    (0 ∷ [], _, short_chunk (codes "data") (1 ∷ 0 ∷ 2 ∷ []) refl (omega arith), refl, inl refl, refl),
+  ),
+  (
+    record { head = 12; content = format_content 1 2 },
+    record { head = 36; content = 1 ∷ 0 ∷ 2 ∷ [] },
+    refl,
+    refl,
+    (λ (same : 1 ≡ 0). omega (arith, same)),
+    refl,
+  ),
+)

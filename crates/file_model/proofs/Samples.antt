@@ -1,15 +1,13 @@
 -- The samples that bytes hold, read back.
-use Rattle.std.proofs.Common.{◌≡◌, ◌<◌, ◌≤◌, ◌^◌, ◌+◌, ◌-◌, ◌*◌, ◌/◌, ◌%◌, ◌⊎◌, inl, inr, ℕ, zero, suc, Bool, true, false, cond, ltb, List, [], ◌∷◌, ◌++◌, map, length, get_or, take, drop, length-append, length-take, length-drop, refl, ap, ◌∙◌, sym, subst, arith}
+use Rattle.std.proofs.Common.{◌≡◌, ◌<◌, ◌≤◌, ◌^◌, ◌+◌, ◌-◌, ◌*◌, ◌/◌, ◌%◌, ◌⊎◌, inl, inr, ℕ, zero, suc, Bool, cond, List, [], ◌∷◌, ◌++◌, length, get_or, take, drop, length-append, length-take, length-drop, refl, ap, ◌∙◌, sym, subst, arith}
 use Rattle.std.specs.Prelude.{ℤ, pos, negsuc, All, flat_map}
-use Rattle.std.specs.Int.{w32, cast_unsigned, to_le_bytes}
-use Rattle.std.specs.Simd.{first_chunks}
 use Rattle.std.proofs.lemmas.Int.{ints}
 use Rattle.std.proofs.lemmas.Bool.{cases_lt, lt-ltb, le-ltb}
 use Rattle.std.proofs.lemmas.List.{take_at, drop_at, get_or-drop, take-append-drop, nil_from_length}
 use Rattle.std.proofs.lemmas.List.Elements.{All-head, All-tail, All-nil, All-cons, All-append, All-map, All-get_or, All-from_get_or}
 use Rattle.lib_base.specs.Sounds.{IsSample}
 use Rattle.file_model.specs.Pcm.{frame_at, interleaved}
-use Rattle.file_model.specs.Samples.{number_in, signed, sample_in, samples_in}
+use Rattle.file_model.specs.Samples.{signed, sample_in, samples_in}
 use Rattle.file_model.specs.Wave.{sample_bytes}
 
 -- the depths of a wave

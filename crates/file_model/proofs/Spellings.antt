@@ -1,9 +1,7 @@
 -- Chunks read back from their spellings.
-use Rattle.std.proofs.Common.{◌≡◌, ◌≤◌, ◌<◌, ◌^◌, ◌+◌, ◌-◌, ◌%◌, ◌⊎◌, inl, inr, ℕ, zero, suc, List, [], ◌∷◌, ◌++◌, length, take, drop, length-append, length-drop, refl, subst, ap, ◌∙◌, sym, arith}
-use Rattle.std.specs.Prelude.{codes}
-use Rattle.std.specs.Int.{w32, to_le_bytes, from_le_bytes}
+use Rattle.std.proofs.Common.{◌≡◌, ◌≤◌, ◌<◌, ◌^◌, ◌+◌, ◌%◌, inl, inr, ℕ, List, [], ◌∷◌, ◌++◌, length, take, drop, length-append, refl, subst, ap, ◌∙◌, sym, arith}
 use Rattle.std.proofs.lemmas.Nat.{from_le_bytes-to_le_bytes_4}
-use Rattle.std.proofs.lemmas.List.{take_at, drop_at, drop-drop, drop_all, append_assoc, nil_from_length}
+use Rattle.std.proofs.lemmas.List.{take_at, drop_at, drop-drop, drop_all, append_assoc}
 use Rattle.file_model.specs.Chunks.{Chunk, IsChunk, spelling, IsPad, Begins, IsCut, number_at, four_bytes}
 
 -- the chunk that bytes begin with

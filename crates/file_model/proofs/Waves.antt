@@ -1,11 +1,11 @@
 -- A wave file has one list of chunks and one sound, and breaks no rule.
-use Rattle.std.proofs.Common.{◌≡◌, ◌≢◌, ◌<◌, ◌≤◌, ◌^◌, ◌+◌, ◌-◌, ◌*◌, ◌/◌, ◌%◌, ◌⊎◌, inl, inr, ℕ, zero, suc, Bool, true, false, List, [], ◌∷◌, ◌++◌, length, take, drop, refl, ap, ◌∙◌, sym, subst, arith}
-use Rattle.std.specs.Prelude.{ℤ, All, flat_map, codes, Option, Some, None}
+use Rattle.std.proofs.Common.{◌≡◌, ◌<◌, ◌≤◌, ◌^◌, ◌*◌, ◌/◌, ◌%◌, inl, inr, ℕ, zero, suc, Bool, true, false, List, [], ◌∷◌, ◌++◌, length, drop, refl, ap, ◌∙◌, sym, subst, arith}
+use Rattle.std.specs.Prelude.{ℤ, flat_map, codes, Option, Some, None}
 use Rattle.std.proofs.lemmas.Nat.{from_le_bytes-to_le_bytes_4}
 use Rattle.std.proofs.Math.Nat.{mul-div_cancel_left, mul-mod_left}
 use Rattle.lib_base.specs.Sounds.{part, IsSample, IsSound}
 use Rattle.file_model.specs.Channels.{first_channels}
-use Rattle.file_model.specs.Chunks.{Chunk, Placed, Begins, IsCut, named, second_head, earlier, first_repeat, number_at, four_bytes}
+use Rattle.file_model.specs.Chunks.{Chunk, Placed, Begins, named, second_head, earlier, first_repeat, number_at, four_bytes}
 use Rattle.file_model.specs.Format.{IsFormat, channels_of, depth_of, align_of, IsShortFormat, IsOtherFormat, HasOtherChannels, HasOtherRate, HasOtherDepth, HasOtherAlign}
 use Rattle.file_model.specs.Pcm.{Pcm, interleaved}
 use Rattle.file_model.specs.Rules.{if◌says◌else◌, IsNoRiff, IsOtherForm, HasOtherSize, Lacks, IsCutAt, FormatIs, HasPartFrame, HasShortBext, ChunksBreak, ChunksOfBreak, Breaks}
@@ -75,7 +75,7 @@ sound_of_contents format samples sound is_format holds is_sound =
     ∙ samples_in-bytes depth ys known
     (All-interleaved (IsSample depth) sound.frames sound.frames sound.lists (omega arith) is_sound.equal is_sound.within) in
     let listed : (k d n : ℕ) → k ≡ channels → d ≡ depth → n ≡ sound.frames
-        → first_channels k k n (samples_in d (k * n) samples) ≡ sound.lists =
+    → first_channels k k n (samples_in d (k * n) samples) ≡ sound.lists =
     λ k d n same_k same_d same_n.
     ap (λ (x : ℕ). first_channels x x n (samples_in d (x * n) samples)) same_k
     ∙ ap (λ (x : ℕ). first_channels channels channels n (samples_in x (channels * n) samples)) same_d
@@ -116,12 +116,13 @@ IsWaveOf_unique bytes some others a b one other =
     let format : one.format ≡ other.format =
     one_placed _ _ _ one.one_format (ap (named (codes "fmt ")) same ∙ other.one_format) in
     let data_chunk : one.data_chunk ≡ other.data_chunk =
-    one_placed _ _ _ one.one_data (ap (named (codes "data")) same ∙ other.one_data) in
-    (same,
-    sound_of_contents one.format.content one.data_chunk.content a one.is_format one.samples one.is_sound
-    ∙ ap (λ (p : Placed). sound_in p.content one.data_chunk.content) format
-    ∙ ap (λ (p : Placed). sound_in other.format.content p.content) data_chunk
-    ∙ sym (sound_of_contents other.format.content other.data_chunk.content b other.is_format other.samples other.is_sound))
+    one_placed _ _ _ one.one_data (ap (named (codes "data")) same ∙ other.one_data) in (
+      same,
+      sound_of_contents one.format.content one.data_chunk.content a one.is_format one.samples one.is_sound
+          ∙ ap (λ (p : Placed). sound_in p.content one.data_chunk.content) format
+          ∙ ap (λ (p : Placed). sound_in other.format.content p.content) data_chunk
+          ∙ sym (sound_of_contents other.format.content other.data_chunk.content b other.is_format other.samples other.is_sound),
+    )
 
 pub IsWave_unique : (bytes : List ℕ) (a b : Pcm) → IsWave bytes a → IsWave bytes b → a ≡ b
 IsWave_unique bytes a b one other = (IsWaveOf_unique bytes one.0 other.0 a b one.1 other.1).1
@@ -157,7 +158,7 @@ not_short content channels depth is (inr short) =
     ]
 
 not_other : (content : List ℕ) (channels depth : ℕ) → IsFormat content channels depth → IsOtherFormat content → ⊥
-not_other content channels depth is (inl tag) = elim is.pcm [ | inl plain ↦ tag.0 plain | inr extensible ↦ tag.1 extensible.0 ]
+not_other content channels depth is (inl tag) = elim is.pcm [ inl plain ↦ tag.0 plain | inr extensible ↦ tag.1 extensible.0 ]
 not_other content channels depth is (inr subformat) =
     elim is.pcm [
       | inl plain ↦ let tag = subformat.0 in omega (arith, plain, tag)
@@ -170,7 +171,7 @@ not_other_channels content channels depth is some few (inr many) = let said = is
 
 not_other_depth : (content : List ℕ) (channels depth : ℕ) → IsFormat content channels depth → HasOtherDepth content → ⊥
 not_other_depth content channels depth is other =
-    elim is.depth_known [ | inl sixteen ↦ other.0 (is.depth_field ∙ sixteen) | inr more ↦ other.1 (is.depth_field ∙ more) ]
+    elim is.depth_known [ inl sixteen ↦ other.0 (is.depth_field ∙ sixteen) | inr more ↦ other.1 (is.depth_field ∙ more) ]
 
 not_other_align : (content : List ℕ) (channels depth : ℕ) → IsFormat content channels depth → HasOtherAlign content → ⊥
 not_other_align content channels depth is other =
@@ -215,7 +216,7 @@ chunks_right bytes chunks sound rule place wave =
 pub breaks_nothing : (bytes : List ℕ) (chunks : List Chunk) (sound : Pcm) (rule place : ℕ) → IsWaveOf bytes chunks sound → Breaks bytes rule place → ⊥
 breaks_nothing bytes chunks sound rule place wave =
     let head = head_of bytes wave.body wave.size wave.size_fits wave.written in
-    neither _ _ _ (λ (h : IsNoRiff bytes place). elim h.0 [ | inl short ↦ let long = head.long in omega (arith, long, short) | inr other ↦ other head.riff ])
+    neither _ _ _ (λ (h : IsNoRiff bytes place). elim h.0 [ inl short ↦ let long = head.long in omega (arith, long, short) | inr other ↦ other head.riff ])
     (neither _ _ _ (λ (h : IsOtherForm bytes place). h.0 head.form)
     (neither _ _ _ (λ (h : HasOtherSize bytes place). h.0 (subst (λ (n : ℕ). IsNear n (length bytes)) (sym head.number) wave.near))
     (neither _ _ _ (λ (h : IsCutAt bytes place). not_whole_and_cut h.0 chunks (drop 12 bytes) h.1 h.4 h.3 h.2 (chunks_of_wave bytes chunks sound wave))

@@ -1,5 +1,5 @@
 -- Samples copied out of a wave's bytes.
-use Rattle.std.proofs.Common.{◌≡◌, ◌-◌, ◌*◌, ◌/◌, ◌⊎◌, ℕ, Bool, true, false, cond, ltb, List, [], ◌∷◌, map, slice_index, length, drop, suc, zero, ◌+◌, ◌^◌, ◌<◌, ◌≤◌, inl, inr, refl, subst, ap, ◌∙◌, sym, arith}
+use Rattle.std.proofs.Common.{◌≡◌, ◌-◌, ◌*◌, ◌/◌, ℕ, Bool, true, false, cond, ltb, List, [], ◌∷◌, length, suc, refl, subst, ap, ◌∙◌, sym, arith}
 use Rattle.std.specs.Prelude.{ℤ, pos, negsuc, All, codes, flat_map}
 use Rattle.std.specs.Int.{w16, cast_signed, from_le_bytes}
 use mir.Val.{sel}
@@ -10,15 +10,15 @@ use Rattle.lib_base.specs.declared.files.Span.{Span}
 use Rattle.file_model.specs.Channels.{first_channels}
 use Rattle.file_model.specs.Chunks.{Placed}
 use Rattle.file_model.specs.Pcm.{Pcm, interleaved}
-use Rattle.file_model.specs.Samples.{signed, sample_in, samples_in, number_in}
-use Rattle.file_model.specs.Wave.{IsWave, sample_bytes}
+use Rattle.file_model.specs.Samples.{sample_in, samples_in, number_in}
+use Rattle.file_model.specs.Wave.{sample_bytes}
 use Rattle.file_model.proofs.Interleaving.{channels-interleaved, length-interleaved}
 use Rattle.file_model.proofs.Samples.{IsDepth, samples_in-bytes, length-bytes, All-interleaved}
 use Rattle.file_model.proofs.Waves.{chunks_of_wave, one_placed, size_positive}
 use Rattle.wave_chunks.specs.Answers.{IsReadOf}
 use Rattle.wave_chunks.specs.Shape.{Shape}
 use Rattle.wave_chunks.specs.Spans.{HasOne}
-use Rattle.wave_chunks.proofs.Locating.{Lies, lies}
+use Rattle.wave_chunks.proofs.Locating.{lies}
 
 -- the file has its samples where reading says
 pub has_samples : (bytes : List ℕ) (wave : Shape) → IsReadOf bytes wave → HasOne bytes (codes "data") wave.samples

@@ -1,16 +1,15 @@
 -- Where the contents lie.
-use Rattle.std.proofs.Common.{◌≡◌, ◌≢◌, ◌≤◌, ◌<◌, ◌+◌, ◌-◌, ◌*◌, ◌/◌, ◌%◌, ◌⊎◌, inl, inr, ℕ, zero, suc, Bool, true, false, cond, nat_eq, List, [], ◌∷◌, ◌++◌, length, take, drop, slice_get, length-drop, refl, subst, ap, ◌∙◌, sym, arith}
-use Rattle.std.specs.Prelude.{codes, Option, Some, None, Result, Ok, Err, IfOk, OnOk}
+use Rattle.std.proofs.Common.{◌≡◌, ◌≢◌, ◌≤◌, ◌<◌, ◌+◌, ◌-◌, ◌*◌, ◌/◌, ◌%◌, inl, inr, ℕ, zero, suc, Bool, true, false, cond, nat_eq, List, [], ◌∷◌, length, take, drop, slice_get, length-drop, refl, subst, ap, ◌∙◌, sym, arith}
+use Rattle.std.specs.Prelude.{codes, Some, None, Result, Ok, Err, IfOk, OnOk}
 use Rattle.lib_base.specs.declared.outcomes.Refused.{Refused}
 use Rattle.std.specs.Option.{option_map}
 use Rattle.std.specs.Cmp.Lexicographic.{pointwise}
 use Rattle.std.proofs.lemmas.List.{drop-drop}
 use Rattle.lib_base.specs.Sounds.{part}
 use Rattle.lib_base.specs.declared.files.Span.{Span}
-use Rattle.file_model.specs.Chunks.{Chunk, Placed, Begins, named, named_from, next_head, number_at}
+use Rattle.file_model.specs.Chunks.{Chunk, Placed, Begins, named, named_from, next_head}
 use Rattle.file_model.specs.Rules.{Lacks, HasPartFrame, HasShortBext, BreaksNoneBelow}
 use Rattle.file_model.specs.Format.{IsFormat, channels_of, depth_of, align_of}
-use Rattle.file_model.specs.Wave.{AtMostOneBext}
 use Rattle.file_model.proofs.Readings.{none_below_next}
 use Rattle.file_model.proofs.Spellings.{chunks_unique, reads_back}
 use Rattle.file_model.proofs.Waves.{one_placed, align_is, size_positive}
@@ -115,7 +114,7 @@ pub says_format : (bytes content : List ℕ) (at : ℕ) (format : Format) → Is
 says_format bytes content at format is is_format some few channels depth align =
     let Says : List ℕ → Type 0 =
     λ said. IsFormat said (channels_of said) (depth_of said) × (1 ≤ channels_of said) × (channels_of said ≤ 6) × (format.channels ≡ channels_of said)
-        × (format.depth ≡ depth_of said) × (format.align ≡ align_of said) in
+    × (format.depth ≡ depth_of said) × (format.align ≡ align_of said) in
     let of_placed : Says is.format.content = subst Says is.content_is (is_format, some, few, channels, depth, align) in
     record {
       chunks = is.chunks;
@@ -153,10 +152,18 @@ pub part_frame : (bytes : List ℕ) (span : Span) (format : Format) (place : ℕ
     → (span.end - span.start) % format.align ≢ 0 → place ≡ span.start - 8
     → (chunks : List Chunk) × Begins (drop 12 bytes) chunks [] × HasPartFrame chunks place
 part_frame bytes span format place says has part is =
-    let start = (lies bytes (codes "data") span has).start in
-    (has.chunks, has.whole, (says.placed, has.placed,
-    ap (named (codes "fmt ")) (chunks_unique has.chunks says.chunks (drop 12 bytes) has.whole says.whole) ∙ says.one, has.one,
-    (λ none. part (part_frame_is bytes span format says has ∙ none)), is ∙ omega (arith, start)))
+    let start = (lies bytes (codes "data") span has).start in (
+      has.chunks,
+      has.whole,
+      (
+        says.placed,
+        has.placed,
+        ap (named (codes "fmt ")) (chunks_unique has.chunks says.chunks (drop 12 bytes) has.whole says.whole) ∙ says.one,
+        has.one,
+        (λ none. part (part_frame_is bytes span format says has ∙ none)),
+        is ∙ omega (arith, start),
+      ),
+    )
 
 pub none_below_15 : (bytes : List ℕ) (span : Span) (format : Format) → SaysFormat bytes format → HasOne bytes (codes "data") span
     → (span.end - span.start) % format.align ≡ 0 → BreaksNoneBelow bytes 13 → BreaksNoneBelow bytes 15

@@ -1,14 +1,13 @@
 -- The chunks that stand once at most.
-use Rattle.std.proofs.Common.{◌≡◌, ◌+◌, ◌-◌, min, ℕ, List, [], ◌∷◌, map, slice_get, length, drop, refl, subst, ap, ◌∙◌, sym, arith}
-use Rattle.std.specs.Prelude.{codes, Option, Some, None, MatchOption}
-use Rattle.std.specs.Option.{option_map}
+use Rattle.std.proofs.Common.{◌≡◌, ◌+◌, ◌-◌, ℕ, List, [], ◌∷◌, map, slice_get, drop, refl, subst, ap, ◌∙◌, sym, arith}
+use Rattle.std.specs.Prelude.{codes, Option, Some, None}
 use Rattle.lib_base.specs.declared.files.Span.{Span}
-use Rattle.file_model.specs.Chunks.{Chunk, Placed, Begins, named, named_from, second_head, earlier, first_repeat}
+use Rattle.file_model.specs.Chunks.{Chunk, Placed, Begins, named, second_head, earlier, first_repeat}
 use Rattle.file_model.specs.Rules.{BreaksNoneBelow}
 use Rattle.file_model.proofs.Readings.{none_below_next}
 use Rattle.file_model.proofs.Spellings.{chunks_unique}
 use Rattle.wave_chunks.specs.declared.chunks.Chunk.{Chunk as Stored}
-use Rattle.wave_chunks.specs.Spans.{AreChunks, AtMostOne, HasNone, HasOne, head_of, span_of, spans_from, spans_named}
+use Rattle.wave_chunks.specs.Spans.{AreChunks, AtMostOne, head_of, span_of, spans_named}
 use Rattle.wave_chunks.proofs.Naming.{spans_named-from}
 
 -- the contents of a name, as the file's chunks say

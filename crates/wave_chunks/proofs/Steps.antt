@@ -1,5 +1,5 @@
 -- From one rule to the next.
-use Rattle.std.proofs.Common.{◌≡◌, ◌≢◌, ◌≤◌, ◌<◌, ◌+◌, ◌*◌, ◌/◌, ◌⊎◌, ◌↔◌, inl, inr, ℕ, Bool, true, false, IsTrue, List, [], ◌∷◌, length, drop, refl, subst, ap, ◌∙◌, sym, arith}
+use Rattle.std.proofs.Common.{◌≡◌, ◌≢◌, ◌≤◌, ◌<◌, ◌+◌, ◌*◌, ◌/◌, ◌⊎◌, ◌↔◌, inl, inr, ℕ, Bool, true, false, IsTrue, List, [], length, drop, refl, subst, ap, ◌∙◌, sym, arith}
 use Rattle.std.specs.Prelude.{codes}
 use Rattle.std.specs.Int.{abs_diff}
 use Rattle.lib_base.specs.Sounds.{part}
@@ -57,7 +57,7 @@ other_align content align channels depth is_align is_channels is_depth differs s
 pub none_below_2 : (bytes : List ℕ) → 12 ≤ length bytes → part bytes 0 4 ≡ codes "RIFF" → BreaksNoneBelow bytes 2
 none_below_2 bytes long riff =
     none_below_next bytes 1 2 refl (none_below_1 bytes)
-    (λ (place : ℕ) (broken : IsNoRiff bytes place). elim broken.0 [ | inl short ↦ omega (arith, long, short) | inr other ↦ other riff ])
+    (λ (place : ℕ) (broken : IsNoRiff bytes place). elim broken.0 [ inl short ↦ omega (arith, long, short) | inr other ↦ other riff ])
 
 pub none_below_3 : (bytes : List ℕ) → 12 ≤ length bytes → part bytes 0 4 ≡ codes "RIFF" → part bytes 8 4 ≡ codes "WAVE" → BreaksNoneBelow bytes 3
 none_below_3 bytes long riff form =

@@ -1,10 +1,10 @@
 -- A file's chunks, one after another.
-use Rattle.std.proofs.Common.{◌≡◌, ◌≤◌, ◌<◌, ◌^◌, ◌+◌, ◌-◌, ◌%◌, ◌⊎◌, inl, inr, ℕ, zero, suc, Bool, true, false, cond, ltb, List, [], ◌∷◌, ◌++◌, length, take, drop, length-take, length-drop, append_assoc, refl, subst, ap, ◌∙◌, sym, arith}
+use Rattle.std.proofs.Common.{◌≡◌, ◌≤◌, ◌<◌, ◌+◌, ◌-◌, ◌%◌, inl, inr, ℕ, Bool, cond, ltb, List, [], ◌∷◌, ◌++◌, length, drop, length-take, length-drop, refl, subst, ap, ◌∙◌, sym, arith}
 use Rattle.std.proofs.lemmas.Bool.{cases_lt, lt-ltb, le-ltb}
 use Rattle.std.proofs.lemmas.List.{drop_all}
 use Rattle.lib_base.specs.Sounds.{part}
 use Rattle.lib_base.specs.declared.files.Span.{Span}
-use Rattle.file_model.specs.Chunks.{Chunk, IsChunk, Begins, IsPad, IsCut, spelling, next_head, number_at, four_bytes}
+use Rattle.file_model.specs.Chunks.{Chunk, Begins, IsPad, IsCut, spelling, next_head, number_at, four_bytes}
 use Rattle.file_model.specs.Rules.{IsCutAt, BreaksNoneBelow}
 use Rattle.file_model.proofs.Makes.{part_and_rest, number_fits, four_bytes-number_at}
 use Rattle.file_model.proofs.Readings.{none_below_next}

@@ -1,9 +1,9 @@
 -- A wave that was read whole.
-use Rattle.std.proofs.Common.{◌≡◌, ◌-◌, ◌*◌, ◌/◌, ◌%◌, ℕ, List, [], ◌∷◌, length, slice_get, drop, refl, subst, ap, ◌∙◌, sym}
-use Rattle.std.specs.Prelude.{codes, Option}
+use Rattle.std.proofs.Common.{◌≡◌, ◌-◌, ◌*◌, ◌/◌, ◌%◌, ℕ, List, [], ◌∷◌, length, slice_get, drop, subst, ap, ◌∙◌, sym}
+use Rattle.std.specs.Prelude.{codes}
 use Rattle.std.specs.Option.{option_map}
 use Rattle.lib_base.specs.declared.files.Span.{Span}
-use Rattle.file_model.specs.Chunks.{Chunk, Placed, named}
+use Rattle.file_model.specs.Chunks.{Placed, named}
 use Rattle.file_model.specs.Format.{channels_of, depth_of, align_of}
 use Rattle.file_model.specs.Pcm.{Pcm}
 use Rattle.file_model.specs.Wave.{AtMostOneBext, IsWave}
@@ -13,7 +13,6 @@ use Rattle.file_model.specs.Samples.{samples_in}
 use Rattle.file_model.proofs.Samples.{AreBytes}
 use Rattle.file_model.proofs.Spellings.{chunks_unique}
 use Rattle.file_model.proofs.Waves.{sound_in, IsWave_unique}
-use Rattle.wave_chunks.specs.declared.chunks.Chunk.{Chunk as Stored}
 use Rattle.wave_chunks.specs.declared.format.Format.{Format}
 use Rattle.wave_chunks.specs.Answers.{IsReadOf}
 use Rattle.wave_chunks.specs.Formats.{SaysFormat}

@@ -21,10 +21,9 @@ mod tests;
 mod waves;
 
 pub use chunks::Chunk;
+use lib_base::{Broken, Refused, Rule};
 pub use pcm_copy::pcm;
 pub use waves::{Wave, read};
-
-use lib_base::{Broken, Refused, Rule};
 
 /// The refusal of a file that breaks a rule of waves at a place, and no lower one.
 fn broken(number: u8, place: usize) -> Refused

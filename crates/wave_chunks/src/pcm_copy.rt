@@ -94,7 +94,10 @@ fn samples_of_24(alloc: Global, bytes: &[u8]) -> Result<Vec<i32>, Memory>
     ensures { IfOk result (λ v. v.items ≡ map (sample_in 24) (first_chunks 3 (length bytes.now / 3) bytes.now)) }
 {
     let (triples, _) = bytes.as_chunks::<3>();
-    let samples = triples.iter().map(|triple| sample_24(*triple)).collect(alloc)?;
+    let samples = triples
+        .iter()
+        .map(|triple| sample_24(*triple))
+        .collect(alloc)?;
     Ok(samples)
 }
 

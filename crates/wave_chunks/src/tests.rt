@@ -69,7 +69,11 @@ fn each_edit_breaks_its_rule(rt: HostRuntime) {
         assert!(rt; place < 48);
         let mut bytes = MONO;
         bytes[place] = value;
-        assert_eq!(rt; refusal(rt.alloc(), bytes.as_slice()), by_rule(number, broken_at), "byte {place} as {value}");
+        assert_eq!(rt;
+            refusal(rt.alloc(), bytes.as_slice()),
+            by_rule(number, broken_at),
+            "byte {place} as {value}"
+        );
     }
 }
 
@@ -105,7 +109,11 @@ fn each_prefix_is_refused(rt: HostRuntime) {
             12..47 => by_rule(3, 4),
             _ => by_rule(4, 36),
         };
-        assert_eq!(rt; refusal(rt.alloc(), &MONO[..length]), wanted, "{length} bytes");
+        assert_eq!(rt;
+            refusal(rt.alloc(), &MONO[..length]),
+            wanted,
+            "{length} bytes"
+        );
     }
 }
 
@@ -114,7 +122,10 @@ fn each_layout_is_read(rt: HostRuntime) -> Result<(), Fail> {
     let alloc = rt.alloc();
     let swapped = read(alloc, SWAPPED.as_slice())?;
     assert_eq!(rt; swapped.samples(), Span { start: 20, end: 24 });
-    assert_eq!(rt; (swapped.channels(), swapped.depth(), swapped.frames()), (1, 16, 2));
+    assert_eq!(rt;
+        (swapped.channels(), swapped.depth(), swapped.frames()),
+        (1, 16, 2)
+    );
     for length in [65, 66] {
         let odd = read(alloc, &ODD[..length])?;
         assert_eq!(rt; odd.samples(), Span { start: 62, end: 65 });
@@ -123,7 +134,14 @@ fn each_layout_is_read(rt: HostRuntime) -> Result<(), Fail> {
     }
     let extensible = read(alloc, EXTENSIBLE.as_slice())?;
     assert_eq!(rt; extensible.samples(), Span { start: 68, end: 68 });
-    assert_eq!(rt; (extensible.channels(), extensible.depth(), extensible.frames()), (2, 24, 0));
+    assert_eq!(rt;
+        (
+            extensible.channels(),
+            extensible.depth(),
+            extensible.frames()
+        ),
+        (2, 24, 0)
+    );
     Ok(())
 }
 
@@ -131,7 +149,10 @@ fn each_layout_is_read(rt: HostRuntime) -> Result<(), Fail> {
 fn samples_are_copied(rt: HostRuntime) -> Result<(), Fail> {
     let wave = read(rt.alloc(), SIX.as_slice())?;
     let sound = pcm(rt.alloc(), SIX.as_slice(), &wave)?;
-    assert_eq!(rt; (sound.channels(), sound.depth(), sound.frames()), (6, 24, 1));
+    assert_eq!(rt;
+        (sound.channels(), sound.depth(), sound.frames()),
+        (6, 24, 1)
+    );
     let mut scratch = Scratch::new(rt.alloc(), 0)?;
     let samples = [1, -1, 65_536, -65_536, 8_388_607, -8_388_608];
     for channel in 0..6 {
@@ -141,7 +162,10 @@ fn samples_are_copied(rt: HostRuntime) -> Result<(), Fail> {
     }
     let mono = read(rt.alloc(), MONO.as_slice())?;
     let sound = pcm(rt.alloc(), MONO.as_slice(), &mono)?;
-    assert_eq!(rt; (sound.channels(), sound.depth(), sound.frames()), (1, 16, 2));
+    assert_eq!(rt;
+        (sound.channels(), sound.depth(), sound.frames()),
+        (1, 16, 2)
+    );
     let mut out = [7; 2];
     sound.fill(0, 0, &mut out, &mut scratch);
     assert_eq!(rt; out, [1, -2]);

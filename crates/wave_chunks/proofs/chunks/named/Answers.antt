@@ -1,4 +1,4 @@
-use Rattle.std.proofs.Common.{◌≡◌, ◌∙◌, ℕ, List, [], slice_get, ap, sym}
+use Rattle.std.proofs.Common.{◌∙◌, List, [], slice_get, ap, sym}
 use Rattle.lib_base.specs.declared.files.Span.{Span}
 use Rattle.wave_chunks.specs.declared.chunks.Chunk.{Chunk}
 use Rattle.wave_chunks.proofs.chunks.named.Goals as goal

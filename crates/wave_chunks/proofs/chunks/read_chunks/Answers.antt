@@ -1,6 +1,5 @@
-use Rattle.std.proofs.Common.{ap, sym, subst, List}
+use Rattle.std.proofs.Common.{sym, subst}
 use Rattle.wave_chunks.proofs.Walking.{walk_begins, walk_more, walk_ends, walk_cut, none_below_5}
-use Rattle.wave_chunks.specs.declared.chunks.Chunk.{Chunk}
 use Rattle.wave_chunks.specs.Spans.{Walked}
 use Rattle.wave_chunks.proofs.chunks.read_chunks.Goals as goal
 

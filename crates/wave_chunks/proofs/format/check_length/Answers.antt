@@ -1,8 +1,8 @@
-use Rattle.std.proofs.Common.{◌≡◌, ◌≢◌, ◌≤◌, ◌<◌, ◌+◌, ◌*◌, ◌/◌, ◌⊎◌, inl, inr, length, refl, rules, arith}
-use Rattle.file_model.specs.Format.{IsShortFormat, IsOtherFormat, HasOtherChannels, HasOtherRate, HasOtherDepth, HasOtherAlign, channels_of, rate_of, depth_of, align_of}
+use Rattle.std.proofs.Common.{refl, rules}
+use Rattle.file_model.specs.Format.{IsShortFormat}
 use Rattle.file_model.proofs.Readings.{none_below_next}
-use Rattle.wave_chunks.specs.Formats.{IsLongEnough, IsPcm}
-use Rattle.wave_chunks.proofs.Steps.{format_broken, format_right, not_short, not_other, not_other_channels, not_other_depth}
+use Rattle.wave_chunks.specs.Formats.{IsLongEnough}
+use Rattle.wave_chunks.proofs.Steps.{format_right, not_short}
 use Rattle.wave_chunks.proofs.format.check_length.Goals as goal
 
 pub returns-clause-passed : goal.returns-clause-passed

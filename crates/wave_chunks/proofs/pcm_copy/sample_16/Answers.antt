@@ -1,4 +1,4 @@
-use Rattle.std.proofs.Common.{◌≡◌, ◌∙◌, ap, refl, rules, arith}
+use Rattle.std.proofs.Common.{◌∙◌, rules}
 use Rattle.std.specs.Int.{w16, w32}
 use Rattle.std.proofs.lemmas.Int.{to_z-of_z}
 use Rattle.wave_chunks.proofs.Copies.{sample_of_two}

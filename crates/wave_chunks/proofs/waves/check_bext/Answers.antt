@@ -1,4 +1,4 @@
-use Rattle.std.proofs.Common.{◌≡◌, ◌∙◌, ◌≤◌, ◌-◌, subst, sym, arith}
+use Rattle.std.proofs.Common.{subst, sym, arith}
 use Rattle.std.specs.Prelude.{codes}
 use Rattle.wave_chunks.specs.Spans.{AtMostOne, HasRightBext}
 use Rattle.wave_chunks.proofs.Locating.{long_bext}

@@ -1,6 +1,6 @@
 use Rattle.std.proofs.Common.{subst}
 use Rattle.std.specs.Prelude.{codes}
-use Rattle.wave_chunks.specs.Spans.{AtMostOne, HasOne}
+use Rattle.wave_chunks.specs.Spans.{AtMostOne}
 use Rattle.wave_chunks.proofs.Locating.{lies, format_content, none_below_7, says_result}
 use Rattle.wave_chunks.proofs.waves.find_format.Goals as goal
 

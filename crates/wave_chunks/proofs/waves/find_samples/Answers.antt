@@ -1,4 +1,4 @@
-use Rattle.std.proofs.Common.{◌≡◌, ◌≢◌, ◌∙◌, ◌%◌, ◌-◌, ℕ, subst, ap, sym}
+use Rattle.std.proofs.Common.{◌≡◌, ◌∙◌, ◌%◌, ◌-◌, ℕ, subst, ap, sym}
 use Rattle.std.specs.Prelude.{codes}
 use Rattle.wave_chunks.specs.Spans.{AtMostOne}
 use Rattle.wave_chunks.proofs.Locating.{part_frame, none_below_14, none_below_15}
