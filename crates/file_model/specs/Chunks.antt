@@ -21,6 +21,7 @@ short_at bytes at = from_le_bytes w16 (part bytes at 2)
 abbrev pub number_at : List ℕ → ℕ → ℕ
 number_at bytes at = from_le_bytes w32 (part bytes at 4)
 
+-- a name, and the bytes behind it
 pub record Chunk : Type 0 where
   pub name : List ℕ
   pub content : List ℕ
