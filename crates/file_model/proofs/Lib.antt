@@ -1,5 +1,8 @@
 pub mod Interleaving
+pub mod Makes
 pub mod Readings
 pub mod Rows
 pub mod Samples
 pub mod Sizes
+pub mod Spellings
+pub mod Waves

@@ -1,8 +1,9 @@
 -- What a file reads as.
 use Rattle.std.specs.Prelude.{◌≡◌, ℕ, List}
 use Rattle.lib_base.specs.declared.outcomes.Rule.{Rule}
-use Rattle.lib_base.specs.declared.outcomes.Rule.TheVariants.{K}
+use Rattle.lib_base.specs.declared.outcomes.Rule.TheVariants.{V}
 use Rattle.file_model.specs.Pcm.{Pcm}
+use Rattle.file_model.specs.Rules.{Breaks, BreaksNoneBelow}
 use Rattle.file_model.specs.Wave.{IsWave}
 
 -- accepted, with its sound, or broken by a rule at a place
@@ -14,7 +15,13 @@ pub data Reading : Type 0 where
 abbrev pub IsNoWave : List ℕ → Type 0
 IsNoWave bytes = (sound : Pcm) → ¬ IsWave bytes sound
 
--- A wave is accepted with its sound. Anything else is a form that is not known: rule K0, at place 0.
+-- they are no wave, they break the rule at the place, and no lower rule anywhere
+pub record IsBroken (bytes : List ℕ) (number place : ℕ) : Type 0 where
+  pub no_wave : IsNoWave bytes
+  pub breaks : Breaks bytes number place
+  pub lowest : BreaksNoneBelow bytes number
+
+-- A wave is accepted with its sound. Anything else is broken by the lowest rule that it breaks, at its place.
 abbrev pub Reads : List ℕ → Reading → Type 0
 Reads bytes (accepted sound) = IsWave bytes sound
-Reads bytes (broken rule place) = IsNoWave bytes × (rule ≡ K 0) × (place ≡ 0)
+Reads bytes (broken rule place) = (number : ℕ) × (rule ≡ V number) × IsBroken bytes number place

@@ -1,3 +1,7 @@
-pub mod Canonical
 pub mod Copies
-pub mod WaveReads
+pub mod Locating
+pub mod Naming
+pub mod Parting
+pub mod Steps
+pub mod Walking
+pub mod Whole

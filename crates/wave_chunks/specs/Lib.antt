@@ -1,7 +1,11 @@
 pub mod Answers
-pub mod Heads
+pub mod Formats
 pub mod Shape
+pub mod Spans
 pub use Rattle.file_model.specs.Channels
+pub use Rattle.file_model.specs.Chunks
+pub use Rattle.file_model.specs.Format
 pub use Rattle.file_model.specs.Pcm
 pub use Rattle.file_model.specs.Reading
+pub use Rattle.file_model.specs.Rules
 pub use Rattle.file_model.specs.Wave

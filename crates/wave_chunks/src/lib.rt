@@ -1,16 +1,36 @@
 //! Reads wave files and copies their samples.
 //!
-//! It reads the canonical wave alone: a head of 44 bytes, then the samples, 16 bits each, of one or
-//! two channels at 48,000 Hz. It promises that a file is read exactly where it is such a wave, with the
-//! frames and the place of its samples, and that a copy holds exactly the file's samples. Reading
-//! takes no memory.
+//! It reads the wave file whole: chunks of any names in any order, PCM of 16 or 24 bits at 48,000 Hz
+//! with 1 to 6 channels, in the plain and the extensible form. It promises that a file is read
+//! exactly where it is such a wave, with its chunks, its format and the places of its contents; that
+//! any other is refused with the lowest rule that it breaks, at its place; and that a copy holds
+//! exactly the file's samples.
 #![tactic(auto)]
 
-mod heads;
+ghost use Rattle.std.specs.Prelude.{◌≡◌, ℕ, List};
+ghost use Rattle.file_model.specs.Rules.{Breaks, BreaksNoneBelow};
+ghost use Rattle.wave_chunks.specs.Answers.{IsRefusalOf};
+
+mod chunks;
+mod fields;
+mod format;
+mod parts;
 mod pcm_copy;
 #[cfg(test)]
 mod tests;
 mod waves;
 
+pub use chunks::Chunk;
+use lib_base::{Broken, Refused, Rule};
 pub use pcm_copy::pcm;
 pub use waves::{Wave, read};
+
+/// The refusal of a file that breaks a rule of waves at a place, and no lower one.
+fn broken(number: u8, place: usize) -> Refused
+    ensures { (bytes : List ℕ) → BreaksNoneBelow bytes number → Breaks bytes number place → IsRefusalOf bytes result }
+{
+    Refused::Broken(Broken {
+        rule: Rule::V(number),
+        place: place as u64,
+    })
+}

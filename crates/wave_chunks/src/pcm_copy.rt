@@ -1,13 +1,14 @@
 //! The samples of a wave file, copied.
-ghost use Rattle.std.specs.Prelude.{◌≡◌, ◌<◌, ◌*◌, ◌/◌, length, map, IfOk};
-ghost use Rattle.std.specs.Int.{w16, cast_signed, from_le_bytes};
+ghost use Rattle.std.specs.Prelude.{◌≡◌, ◌<◌, ◌*◌, ◌/◌, ◌⊎◌, length, map, IfOk};
 ghost use Rattle.std.specs.Simd.{first_chunks};
 ghost use Rattle.file_model.specs.Channels.{channel_samples, first_channels};
 ghost use Rattle.file_model.specs.Pcm.{Pcm};
 ghost use Rattle.file_model.specs.Wave.{IsWave};
 ghost use Rattle.wave_chunks.specs.Answers.{IsReadOf};
+ghost use Rattle.file_model.specs.Samples.{sample_in, samples_in};
 
 use crate::Wave;
+use crate::waves::content_of;
 use lib_base::{Memory, PcmSound, Sound};
 use std::alloc::Global;
 
@@ -19,7 +20,8 @@ pub fn pcm(alloc: Global, bytes: &[u8], wave: &Wave) -> Result<PcmSound, Memory>
     ensures depth { IfOk result (λ copy. ⟦<PcmSound as Sound>⟧.depth copy ≡ wave.now.depth) }
     ensures frames { IfOk result (λ copy. ⟦<PcmSound as Sound>⟧.frames copy ≡ wave.now.frames) }
 {
-    let samples = samples_of(alloc, bytes.split_at(wave.samples().start).1)?;
+    let content = content_of(bytes, wave.samples());
+    let samples = samples_of(alloc, content, wave.depth())?;
     let channels = split(
         alloc,
         samples.as_slice(),
@@ -66,15 +68,54 @@ fn channel_of(
     Ok(own)
 }
 
+/// The samples of so many bits that bytes hold.
+fn samples_of(alloc: Global, bytes: &[u8], depth: u32) -> Result<Vec<i32>, Memory>
+    requires { (depth ≡ 16) ⊎ (depth ≡ 24) }
+    ensures { IfOk result (λ v. v.items ≡ samples_in depth (length bytes.now / (depth / 8)) bytes.now) }
+{
+    if depth == 16 {
+        samples_of_16(alloc, bytes)
+    } else {
+        samples_of_24(alloc, bytes)
+    }
+}
+
 /// The samples that bytes hold, two bytes each.
-fn samples_of(alloc: Global, bytes: &[u8]) -> Result<Vec<i32>, Memory>
-    ensures { IfOk result (λ v. v.items
-        ≡ map (λ pair. cast_signed w16 (from_le_bytes w16 pair)) (first_chunks 2 (length bytes.now / 2) bytes.now)) }
+fn samples_of_16(alloc: Global, bytes: &[u8]) -> Result<Vec<i32>, Memory>
+    ensures { IfOk result (λ v. v.items ≡ map (sample_in 16) (first_chunks 2 (length bytes.now / 2) bytes.now)) }
 {
     let (pairs, _) = bytes.as_chunks::<2>();
-    let samples = pairs
+    let samples = pairs.iter().map(|pair| sample_16(*pair)).collect(alloc)?;
+    Ok(samples)
+}
+
+/// The samples that bytes hold, three bytes each.
+fn samples_of_24(alloc: Global, bytes: &[u8]) -> Result<Vec<i32>, Memory>
+    ensures { IfOk result (λ v. v.items ≡ map (sample_in 24) (first_chunks 3 (length bytes.now / 3) bytes.now)) }
+{
+    let (triples, _) = bytes.as_chunks::<3>();
+    let samples = triples
         .iter()
-        .map(|pair| i32::from(i16::from_le_bytes(*pair)))
+        .map(|triple| sample_24(*triple))
         .collect(alloc)?;
     Ok(samples)
+}
+
+/// The sample in two bytes.
+fn sample_16(bytes: [u8; 2]) -> i32
+    ensures { result ≡ sample_in 16 bytes }
+{
+    i32::from(i16::from_le_bytes(bytes))
+}
+
+/// The sample in three bytes.
+fn sample_24(bytes: [u8; 3]) -> i32
+    ensures { result ≡ sample_in 24 bytes }
+{
+    let [low, middle, high] = bytes;
+    if high < 0x80 {
+        i32::from_le_bytes([low, middle, high, 0])
+    } else {
+        i32::from_le_bytes([low, middle, high, 0xFF])
+    }
 }

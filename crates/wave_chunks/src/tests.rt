@@ -1,107 +1,173 @@
 //! Worked files.
 use super::*;
-use lib_base::{Broken, Memory, PcmSound, Refused, Rule, Scratch, Sound, Span};
+use lib_base::{Broken, Refused, Rule, Scratch, Sound, Span};
 use std::alloc::Global;
 use std::test::Fail;
 
-/// A wave of the samples 0, 16384, -16384 and 1.
-const FOUR: [u8; 52] =
-    *b"RIFF\x2c\0\0\0WAVEfmt \x10\0\0\0\x01\0\x01\0\x80\xbb\0\0\0\x77\x01\0\x02\0\x10\0data\x08\0\0\0\0\0\0\x40\0\xc0\x01\0";
+/// Two frames of one channel, 16 bits: the samples 1 and -2.
+const MONO: [u8; 48] =
+    *b"RIFF\x28\0\0\0WAVEfmt \x10\0\0\0\x01\0\x01\0\x80\xbb\0\0\0\x77\x01\0\x02\0\x10\0data\x04\0\0\0\x01\0\xfe\xff";
 
-/// A wave of two channels: 0 and -16384 on the left, 16384 and 1 on the right.
-const TWO: [u8; 52] =
-    *b"RIFF\x2c\0\0\0WAVEfmt \x10\0\0\0\x01\0\x02\0\x80\xbb\0\0\0\xee\x02\0\x04\0\x10\0data\x08\0\0\0\0\0\0\x40\0\xc0\x01\0";
+/// The same, with an empty `data` chunk behind.
+const TWICE: [u8; 56] =
+    *b"RIFF\x30\0\0\0WAVEfmt \x10\0\0\0\x01\0\x01\0\x80\xbb\0\0\0\x77\x01\0\x02\0\x10\0data\x04\0\0\0\x01\0\xfe\xffdata\0\0\0\0";
 
-/// A wave of no samples.
-const NONE: [u8; 44] =
-    *b"RIFF\x24\0\0\0WAVEfmt \x10\0\0\0\x01\0\x01\0\x80\xbb\0\0\0\x77\x01\0\x02\0\x10\0data\0\0\0\0";
+/// The same, with a `bext` chunk of two bytes behind.
+const SHORT_BEXT: [u8; 58] =
+    *b"RIFF\x32\0\0\0WAVEfmt \x10\0\0\0\x01\0\x01\0\x80\xbb\0\0\0\x77\x01\0\x02\0\x10\0data\x04\0\0\0\x01\0\xfe\xffbext\x02\0\0\0\0\0";
 
-/// The refusal of what is no canonical wave.
-const UNKNOWN: Refused = Refused::Broken(Broken {
-    rule: Rule::K(0),
-    place: 0,
-});
+/// The same, with the `fmt ` chunk behind the samples.
+const SWAPPED: [u8; 48] =
+    *b"RIFF\x28\0\0\0WAVEdata\x04\0\0\0\x01\0\xfe\xfffmt \x10\0\0\0\x01\0\x01\0\x80\xbb\0\0\0\x77\x01\0\x02\0\x10\0";
 
-#[test]
-fn four_samples_are_read(rt: HostRuntime) -> Result<(), Fail> {
-    let bytes = FOUR.as_slice();
-    let wave = read(bytes)?;
-    assert_eq!(rt; wave.channels(), 1);
-    assert_eq!(rt; wave.depth(), 16);
-    assert_eq!(rt; wave.frames(), 4);
-    assert_eq!(rt; wave.samples(), Span { start: 44, end: 52 });
-    let sound = pcm(rt.alloc(), bytes, &wave)?;
-    assert_eq!(rt; sound.channels(), 1);
-    assert_eq!(rt; sound.depth(), 16);
-    assert_eq!(rt; sound.frames(), 4);
-    let mut out = [7; 4];
-    let mut scratch = Scratch::new(rt.alloc(), 0)?;
-    sound.fill(0, 0, &mut out, &mut scratch);
-    assert_eq!(rt; out, [0, 16_384, -16_384, 1]);
-    Ok(())
-}
+/// A `LIST` chunk of one byte with its pad byte, an empty chunk of another name, and one sample of 24
+/// bits, -8388608, with the last pad byte.
+const ODD: [u8; 66] =
+    *b"RIFF\x3a\0\0\0WAVELIST\x01\0\0\0\x09\x07junk\0\0\0\0fmt \x10\0\0\0\x01\0\x01\0\x80\xbb\0\0\0\0\0\0\x03\0\x18\0data\x03\0\0\0\0\0\x80\0";
 
-#[test]
-fn two_channels_are_read(rt: HostRuntime) -> Result<(), Fail> {
-    let bytes = TWO.as_slice();
-    let wave = read(bytes)?;
-    assert_eq!(rt; (wave.channels(), wave.frames()), (2, 2));
-    let sound = pcm(rt.alloc(), bytes, &wave)?;
-    let mut scratch = Scratch::new(rt.alloc(), 0)?;
-    for (channel, want) in [(0usize, [0, -16_384]), (1, [16_384, 1])] {
-        assert!(rt; channel < sound.channels());
-        let mut out = [7; 2];
-        sound.fill(channel, 0, &mut out, &mut scratch);
-        assert_eq!(rt; out, want, "channel {channel}");
-    }
-    Ok(())
-}
+/// No frame of two channels, 24 bits, in the extensible form.
+const EXTENSIBLE: [u8; 68] =
+    *b"RIFF\x3c\0\0\0WAVEfmt \x28\0\0\0\xfe\xff\x02\0\x80\xbb\0\0\0\0\0\0\x06\0\x18\0\x16\0\x14\0\x03\0\0\0\x01\0\0\0\0\0\x10\0\x80\0\0\xaa\0\x38\x9b\x71data\0\0\0\0";
 
-#[test]
-fn a_wave_of_no_samples_is_read(rt: HostRuntime) -> Result<(), Fail> {
-    let wave = read(NONE.as_slice())?;
-    assert_eq!(rt; wave.frames(), 0);
-    assert_eq!(rt; wave.samples(), Span { start: 44, end: 44 });
-    Ok(())
-}
+/// One frame of six channels, 24 bits: 1, -1, 65536, -65536, 8388607 and -8388608.
+const SIX: [u8; 62] =
+    *b"RIFF\x36\0\0\0WAVEfmt \x10\0\0\0\x01\0\x06\0\x80\xbb\0\0\0\0\0\0\x12\0\x18\0data\x12\0\0\0\x01\0\0\xff\xff\xff\0\0\x01\0\0\xff\xff\xff\x7f\0\0\x80";
 
-#[test]
-fn the_byte_rate_is_not_consulted(rt: HostRuntime) {
-    for place in 28..32 {
-        let mut bytes = FOUR;
-        bytes[place] = 255;
-        assert!(rt; read(bytes.as_slice()).is_ok(), "byte {place}");
+/// What a file is refused with, if it is.
+fn refusal(alloc: Global, bytes: &[u8]) -> Option<Refused> {
+    match read(alloc, bytes) {
+        Ok(_) => None,
+        Err(refused) => Some(refused),
     }
 }
 
+/// The refusal by a rule at a place.
+fn by_rule(number: u8, place: u64) -> Option<Refused> {
+    Some(Refused::Broken(Broken {
+        rule: Rule::V(number),
+        place,
+    }))
+}
+
 #[test]
-fn each_wrong_field_is_refused(rt: HostRuntime) {
-    let wrong = [
-        (0, b'r', "the name RIFF"),
-        (4, 45, "the RIFF size"),
-        (8, b'w', "the name WAVE"),
-        (12, b'F', "the name of the format chunk"),
-        (16, 18, "the size of the format chunk"),
-        (20, 3, "the tag"),
-        (22, 2, "two channels with the frame of one"),
-        (22, 3, "three channels"),
-        (24, 0x44, "the rate"),
-        (32, 4, "the bytes of a frame"),
-        (34, 24, "the bits of a sample"),
-        (36, b'D', "the name of the data chunk"),
-        (40, 9, "the data length"),
+fn each_edit_breaks_its_rule(rt: HostRuntime) {
+    let edits = [
+        (0, 0x53, 1, 0),
+        (8, 0x58, 2, 8),
+        (4, 0x26, 3, 4),
+        (40, 0x05, 4, 36),
+        (12, 0x78, 6, 48),
+        (20, 0x03, 8, 20),
+        (22, 0x07, 9, 22),
+        (24, 0x00, 10, 24),
+        (34, 0x08, 11, 34),
+        (32, 0x04, 12, 32),
+        (36, 0x78, 13, 48),
+        (40, 0x03, 14, 36),
     ];
-    for (place, value, field) in wrong {
-        let mut bytes = FOUR;
+    for (place, value, number, broken_at) in edits {
+        assert!(rt; place < 48);
+        let mut bytes = MONO;
         bytes[place] = value;
-        assert_eq!(rt; read(bytes.as_slice()), Err(UNKNOWN), "{field}");
+        assert_eq!(rt;
+            refusal(rt.alloc(), bytes.as_slice()),
+            by_rule(number, broken_at),
+            "byte {place} as {value}"
+        );
     }
 }
 
 #[test]
-fn another_length_is_refused(rt: HostRuntime) {
-    for length in 0..52 {
-        assert_eq!(rt; read(&FOUR[..length]), Err(UNKNOWN), "{length} bytes");
+fn longer_edits_are_answered(rt: HostRuntime) {
+    let alloc = rt.alloc();
+    let mut extensible = MONO;
+    extensible[20] = 0xFE;
+    extensible[21] = 0xFF;
+    assert_eq!(rt; refusal(alloc, extensible.as_slice()), by_rule(7, 20));
+    let mut fast = MONO;
+    fast[24] = 0x00;
+    fast[25] = 0x77;
+    fast[26] = 0x01;
+    assert_eq!(rt; refusal(alloc, fast.as_slice()), by_rule(10, 24));
+    let mut subformat = EXTENSIBLE;
+    subformat[59] = 0x70;
+    assert_eq!(rt; refusal(alloc, subformat.as_slice()), by_rule(8, 20));
+    assert_eq!(rt; refusal(alloc, TWICE.as_slice()), by_rule(5, 48));
+    assert_eq!(rt; refusal(alloc, SHORT_BEXT.as_slice()), by_rule(15, 48));
+    for size in [0x27, 0x28, 0x29] {
+        let mut bytes = MONO;
+        bytes[4] = size;
+        assert_eq!(rt; refusal(alloc, bytes.as_slice()), None, "size {size}");
     }
-    assert_eq!(rt; read(&NONE[..43]), Err(UNKNOWN));
+}
+
+#[test]
+fn each_prefix_is_refused(rt: HostRuntime) {
+    for length in 0..48 {
+        let wanted = match length {
+            0..12 => by_rule(1, 0),
+            12..47 => by_rule(3, 4),
+            _ => by_rule(4, 36),
+        };
+        assert_eq!(rt;
+            refusal(rt.alloc(), &MONO[..length]),
+            wanted,
+            "{length} bytes"
+        );
+    }
+}
+
+#[test]
+fn each_layout_is_read(rt: HostRuntime) -> Result<(), Fail> {
+    let alloc = rt.alloc();
+    let swapped = read(alloc, SWAPPED.as_slice())?;
+    assert_eq!(rt; swapped.samples(), Span { start: 20, end: 24 });
+    assert_eq!(rt;
+        (swapped.channels(), swapped.depth(), swapped.frames()),
+        (1, 16, 2)
+    );
+    for length in [65, 66] {
+        let odd = read(alloc, &ODD[..length])?;
+        assert_eq!(rt; odd.samples(), Span { start: 62, end: 65 });
+        assert_eq!(rt; (odd.chunks().len(), odd.depth(), odd.frames()), (4, 24, 1));
+        assert_eq!(rt; odd.bext(), None);
+    }
+    let extensible = read(alloc, EXTENSIBLE.as_slice())?;
+    assert_eq!(rt; extensible.samples(), Span { start: 68, end: 68 });
+    assert_eq!(rt;
+        (
+            extensible.channels(),
+            extensible.depth(),
+            extensible.frames()
+        ),
+        (2, 24, 0)
+    );
+    Ok(())
+}
+
+#[test]
+fn samples_are_copied(rt: HostRuntime) -> Result<(), Fail> {
+    let wave = read(rt.alloc(), SIX.as_slice())?;
+    let sound = pcm(rt.alloc(), SIX.as_slice(), &wave)?;
+    assert_eq!(rt;
+        (sound.channels(), sound.depth(), sound.frames()),
+        (6, 24, 1)
+    );
+    let mut scratch = Scratch::new(rt.alloc(), 0)?;
+    let samples = [1, -1, 65_536, -65_536, 8_388_607, -8_388_608];
+    for channel in 0..6 {
+        let mut out = [7; 1];
+        sound.fill(channel, 0, &mut out, &mut scratch);
+        assert_eq!(rt; out[0], samples[channel], "channel {channel}");
+    }
+    let mono = read(rt.alloc(), MONO.as_slice())?;
+    let sound = pcm(rt.alloc(), MONO.as_slice(), &mono)?;
+    assert_eq!(rt;
+        (sound.channels(), sound.depth(), sound.frames()),
+        (1, 16, 2)
+    );
+    let mut out = [7; 2];
+    sound.fill(0, 0, &mut out, &mut scratch);
+    assert_eq!(rt; out, [1, -2]);
+    Ok(())
 }

@@ -1,21 +1,32 @@
 //! What a wave file is made of.
-ghost use Rattle.std.specs.Prelude.{◌≡◌, IfOk, IfErr};
+ghost use Rattle.std.specs.Prelude.{◌≡◌, ◌≤◌, ◌<◌, ◌+◌, ◌-◌, ◌%◌, ◌*◌, length, codes, IfOk, IfErr, OnOk};
+ghost use Rattle.file_model.specs.Rules.{BreaksNoneBelow};
+ghost use Rattle.lib_base.specs.Sounds.{part};
 ghost use Rattle.wave_chunks.specs.Answers.{IsReadOf, IsRefusalOf};
+ghost use Rattle.wave_chunks.specs.Formats.{SaysFormat};
+ghost use Rattle.wave_chunks.specs.Spans.{IsHeaded, AtMostOne, HasOne, HasRightBext};
 
-use crate::heads::channels_of;
-use lib_base::{Broken, Refused, Rule, Span};
+use crate::broken;
+use crate::chunks::{Chunk, head_before, read_chunks};
+use crate::fields::{has_part, number_at};
+use crate::format::{Format, read_format};
+use crate::parts::find_parts;
+use lib_base::{Refused, Span};
+use std::alloc::Global;
 use std::marker::Model;
 
-/// How many bytes lie before the samples of a canonical wave.
-const HEAD: usize = 44;
+/// How many bytes a `bext` content has at least.
+const BEXT: usize = 602;
 
 /// The parts of a wave file.
-#[derive(Clone, Copy, Debug, PartialEq, Eq)]
+#[derive(Debug, Drop)]
 pub struct Wave {
+    chunks: Vec<Chunk>,
     channels: u32,
     depth: u32,
     frames: u64,
     samples: Span,
+    bext: Option<Span>,
 }
 
 impl Model for Wave {
@@ -24,22 +35,23 @@ impl Model for Wave {
     ghost Value = { Shape };
 
     ghost view = { λ w. record {
+      chunks = w.chunks.items;
       channels = w.channels;
       depth = w.depth;
       frames = w.frames;
-      start = w.samples.start;
-      end = w.samples.end;
-    } };
-
-    ghost inverse = { λ s. record {
-      channels = s.channels;
-      depth = s.depth;
-      frames = s.frames;
-      samples = record { start = s.start; end = s.end };
+      samples = w.samples;
+      bext = w.bext;
     } };
 }
 
 impl Wave {
+    /// The chunks, in the file's order.
+    pub fn chunks(&self) -> &[Chunk]
+        ensures { result.now ≡ self.now.chunks }
+    {
+        self.chunks.as_slice()
+    }
+
     /// How many channels it has.
     pub fn channels(&self) -> u32
         ensures { result ≡ self.now.channels }
@@ -63,34 +75,123 @@ impl Wave {
 
     /// Where the samples lie.
     pub fn samples(&self) -> Span
-        ensures start { result.start ≡ self.now.start }
-        ensures end { result.end ≡ self.now.end }
+        ensures { result ≡ self.now.samples }
     {
         self.samples
     }
+
+    /// Where the content of the `bext` chunk lies, if there is one.
+    pub fn bext(&self) -> Option<Span>
+        ensures { result ≡ self.now.bext }
+    {
+        self.bext
+    }
 }
 
-/// Reads a wave file. What is no canonical wave is broken by rule K0 at place 0. It takes no memory,
-/// and never answers want of memory.
-pub fn read(bytes: &[u8]) -> Result<Wave, Refused>
+/// Reads a wave file. What is none is broken by the lowest of the rules V1 to V15 that it breaks, at
+/// its place.
+pub fn read(alloc: Global, bytes: &[u8]) -> Result<Wave, Refused>
     ensures ok { IfOk result (λ wave. IsReadOf bytes.now wave) }
     ensures err { IfErr result (λ refused. IsRefusalOf bytes.now refused) }
 {
-    let Some(channels) = channels_of(bytes) else {
-        return Err(Refused::Broken(Broken {
-            rule: Rule::K(0),
-            place: 0,
-        }));
-    };
-    let samples = Span {
-        start: HEAD,
-        end: bytes.len(),
-    };
-    let frames = (bytes.len() - HEAD) as u64 / (2 * u64::from(channels));
+    check_head(bytes)?;
+    let chunks = read_chunks(alloc, bytes)?;
+    let parts = find_parts(bytes, chunks.as_slice())?;
+    let format = find_format(bytes, parts.format)?;
+    let samples = find_samples(bytes, parts.samples, format)?;
+    check_bext(bytes, parts.bext)?;
+    let frames = length_of(samples) as u64 / u64::from(format.align);
     Ok(Wave {
-        channels: u32::from(channels),
-        depth: 16,
+        chunks,
+        channels: u32::from(format.channels),
+        depth: u32::from(format.depth),
         frames,
         samples,
+        bext: parts.bext,
     })
+}
+
+/// Tries the first 12 bytes.
+fn check_head(bytes: &[u8]) -> Result<(), Refused>
+    ensures headed { OnOk result (IsHeaded bytes.now) }
+    ensures passed { OnOk result (BreaksNoneBelow bytes.now 4) }
+    ensures err { IfErr result (λ refused. IsRefusalOf bytes.now refused) }
+{
+    if bytes.len() < 12 || !has_part(bytes, 0, b"RIFF".as_slice()) {
+        return Err(broken(1, 0));
+    }
+    if !has_part(bytes, 8, b"WAVE".as_slice()) {
+        return Err(broken(2, 8));
+    }
+    let counted = u64::from(number_at(bytes, 4)) + 8;
+    if counted.abs_diff(bytes.len() as u64) > 1 {
+        return Err(broken(3, 4));
+    }
+    Ok(())
+}
+
+/// The format that the `fmt ` chunk says.
+fn find_format(bytes: &[u8], found: Option<Span>) -> Result<Format, Refused>
+    requires found { AtMostOne bytes.now (codes "fmt ") found }
+    requires lower { BreaksNoneBelow bytes.now 6 }
+    ensures format { IfOk result (λ format. SaysFormat bytes.now format) }
+    ensures passed { OnOk result (BreaksNoneBelow bytes.now 13) }
+    ensures err { IfErr result (λ refused. IsRefusalOf bytes.now refused) }
+{
+    let Some(span) = found else {
+        return Err(broken(6, bytes.len()));
+    };
+    read_format(bytes, content_of(bytes, span), span.start)
+}
+
+/// Where the samples lie, in whole frames.
+fn find_samples(bytes: &[u8], found: Option<Span>, format: Format) -> Result<Span, Refused>
+    requires found { AtMostOne bytes.now (codes "data") found }
+    requires format { SaysFormat bytes.now format }
+    requires lower { BreaksNoneBelow bytes.now 13 }
+    ensures samples { IfOk result (λ span. HasOne bytes.now (codes "data") span) }
+    ensures whole { IfOk result (λ span. (span.end - span.start) % format.align ≡ 0) }
+    ensures passed { OnOk result (BreaksNoneBelow bytes.now 15) }
+    ensures err { IfErr result (λ refused. IsRefusalOf bytes.now refused) }
+{
+    let Some(span) = found else {
+        return Err(broken(13, bytes.len()));
+    };
+    if length_of(span) % usize::from(format.align) != 0 {
+        return Err(broken(14, head_before(span)));
+    }
+    Ok(span)
+}
+
+/// Tries whether the `bext` chunk is long enough, where there is one.
+fn check_bext(bytes: &[u8], found: Option<Span>) -> Result<(), Refused>
+    requires found { AtMostOne bytes.now (codes "bext") found }
+    requires lower { BreaksNoneBelow bytes.now 15 }
+    ensures right { OnOk result (HasRightBext bytes.now found) }
+    ensures err { IfErr result (λ refused. IsRefusalOf bytes.now refused) }
+{
+    let Some(span) = found else {
+        return Ok(());
+    };
+    if length_of(span) < BEXT {
+        return Err(broken(15, head_before(span)));
+    }
+    Ok(())
+}
+
+/// The bytes that lie in a span.
+pub(crate) fn content_of(bytes: &[u8], span: Span) -> &[u8]
+    requires ordered { span.start ≤ span.end }
+    requires inside { span.end ≤ length bytes.now }
+    ensures { result.now ≡ part bytes.now span.start (span.end - span.start) }
+{
+    let rest = bytes.split_at(span.start).1;
+    rest.split_at(span.end - span.start).0
+}
+
+/// How many bytes lie in a span.
+fn length_of(span: Span) -> usize
+    ensures { result ≡ span.end - span.start }
+{
+    span.end.saturating_sub(span.start)
 }

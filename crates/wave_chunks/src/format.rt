@@ -1,0 +1,177 @@
+//! The `fmt ` chunk.
+ghost use Rattle.std.specs.Prelude.{◌≡◌, ◌≤◌, ◌<◌, ◌+◌, ◌*◌, ◌/◌, ◌⊎◌, length, IfOk, IfErr, OnOk, MatchBool};
+ghost use Rattle.file_model.specs.Format.{IsFormat, IsOtherFormat, channels_of, rate_of, depth_of, align_of};
+ghost use Rattle.file_model.specs.Rules.{BreaksNoneBelow};
+ghost use Rattle.wave_chunks.specs.Answers.{IsRefusalOf, IsFormatContent};
+ghost use Rattle.wave_chunks.specs.Formats.{IsLongEnough, IsPcm};
+
+use crate::broken;
+use crate::fields::{has_part, number_at, short_at};
+use lib_base::Refused;
+
+/// The format tag of PCM.
+const PCM: u16 = 1;
+
+/// The format tag of the extensible form, in which a subformat names PCM.
+const EXTENSIBLE: u16 = 0xFFFE;
+
+/// The subformat of PCM.
+const PCM_SUBFORMAT: [u8; 16] = [
+    0x01, 0x00, 0x00, 0x00, 0x00, 0x00, 0x10, 0x00, 0x80, 0x00, 0x00, 0xAA, 0x00, 0x38, 0x9B, 0x71,
+];
+
+/// The samples each second of every file that is read.
+const RATE: u32 = 48_000;
+
+/// What a `fmt ` content says.
+#[derive(Clone, Copy)]
+pub(crate) struct Format {
+    pub(crate) channels: u16,
+    pub(crate) depth: u16,
+    pub(crate) align: u16,
+}
+
+/// Reads the content of the `fmt ` chunk, which lies at a place of the file. Byte rate, extension
+/// size, valid bits and channel mask are not consulted.
+pub(crate) fn read_format(bytes: &[u8], content: &[u8], at: usize) -> Result<Format, Refused>
+    requires is_content { IsFormatContent bytes.now content.now at }
+    requires lower { BreaksNoneBelow bytes.now 7 }
+    ensures format { IfOk result (λ format. IsFormat content.now (channels_of content.now) (depth_of content.now)) }
+    ensures channels { IfOk result (λ format. format.channels ≡ channels_of content.now) }
+    ensures some { OnOk result (1 ≤ channels_of content.now) }
+    ensures few { OnOk result (channels_of content.now ≤ 6) }
+    ensures depth { IfOk result (λ format. format.depth ≡ depth_of content.now) }
+    ensures align { IfOk result (λ format. format.align ≡ align_of content.now) }
+    ensures passed { OnOk result (BreaksNoneBelow bytes.now 13) }
+    ensures err { IfErr result (λ refused. IsRefusalOf bytes.now refused) }
+{
+    check_length(bytes, content, at)?;
+    check_form(bytes, content, at)?;
+    let channels = read_channels(bytes, content, at)?;
+    check_rate(bytes, content, at)?;
+    let depth = read_depth(bytes, content, at)?;
+    let align = read_align(bytes, content, at, channels, depth)?;
+    Ok(Format {
+        channels,
+        depth,
+        align,
+    })
+}
+
+/// Tries whether the content is as long as its form asks.
+fn check_length(bytes: &[u8], content: &[u8], at: usize) -> Result<(), Refused>
+    requires is_content { IsFormatContent bytes.now content.now at }
+    requires lower { BreaksNoneBelow bytes.now 7 }
+    ensures long { OnOk result (IsLongEnough content.now) }
+    ensures passed { OnOk result (BreaksNoneBelow bytes.now 8) }
+    ensures err { IfErr result (λ refused. IsRefusalOf bytes.now refused) }
+{
+    if content.len() < 16 || (content.len() < 40 && short_at(content, 0) == EXTENSIBLE) {
+        return Err(broken(7, at));
+    }
+    Ok(())
+}
+
+/// Tries whether the form is PCM.
+fn check_form(bytes: &[u8], content: &[u8], at: usize) -> Result<(), Refused>
+    requires is_content { IsFormatContent bytes.now content.now at }
+    requires long { IsLongEnough content.now }
+    requires lower { BreaksNoneBelow bytes.now 8 }
+    ensures pcm { OnOk result (IsPcm content.now) }
+    ensures passed { OnOk result (BreaksNoneBelow bytes.now 9) }
+    ensures err { IfErr result (λ refused. IsRefusalOf bytes.now refused) }
+{
+    if !is_pcm(content) {
+        return Err(broken(8, at));
+    }
+    Ok(())
+}
+
+/// Whether the tag is that of PCM, or that of the extensible form with the subformat of PCM.
+fn is_pcm(content: &[u8]) -> bool
+    requires { IsLongEnough content.now }
+    ensures { MatchBool result (IsPcm content.now) (IsOtherFormat content.now) }
+{
+    match short_at(content, 0) {
+        PCM => true,
+        EXTENSIBLE => has_part(content, 24, PCM_SUBFORMAT.as_slice()),
+        _ => false,
+    }
+}
+
+/// The number of channels.
+fn read_channels(bytes: &[u8], content: &[u8], at: usize) -> Result<u16, Refused>
+    requires is_content { IsFormatContent bytes.now content.now at }
+    requires long { IsLongEnough content.now }
+    requires lower { BreaksNoneBelow bytes.now 9 }
+    ensures channels { IfOk result (λ channels. channels ≡ channels_of content.now) }
+    ensures some { OnOk result (1 ≤ channels_of content.now) }
+    ensures few { OnOk result (channels_of content.now ≤ 6) }
+    ensures passed { OnOk result (BreaksNoneBelow bytes.now 10) }
+    ensures err { IfErr result (λ refused. IsRefusalOf bytes.now refused) }
+{
+    let channels = short_at(content, 2);
+    if channels < 1 || channels > 6 {
+        return Err(broken(9, at + 2));
+    }
+    Ok(channels)
+}
+
+/// Tries the rate.
+fn check_rate(bytes: &[u8], content: &[u8], at: usize) -> Result<(), Refused>
+    requires is_content { IsFormatContent bytes.now content.now at }
+    requires long { IsLongEnough content.now }
+    requires lower { BreaksNoneBelow bytes.now 10 }
+    ensures rate { OnOk result (rate_of content.now ≡ 48000) }
+    ensures passed { OnOk result (BreaksNoneBelow bytes.now 11) }
+    ensures err { IfErr result (λ refused. IsRefusalOf bytes.now refused) }
+{
+    if number_at(content, 4) != RATE {
+        return Err(broken(10, at + 4));
+    }
+    Ok(())
+}
+
+/// The bits of a sample.
+fn read_depth(bytes: &[u8], content: &[u8], at: usize) -> Result<u16, Refused>
+    requires is_content { IsFormatContent bytes.now content.now at }
+    requires long { IsLongEnough content.now }
+    requires lower { BreaksNoneBelow bytes.now 11 }
+    ensures depth { IfOk result (λ depth. depth ≡ depth_of content.now) }
+    ensures known { OnOk result ((depth_of content.now ≡ 16) ⊎ (depth_of content.now ≡ 24)) }
+    ensures passed { OnOk result (BreaksNoneBelow bytes.now 12) }
+    ensures err { IfErr result (λ refused. IsRefusalOf bytes.now refused) }
+{
+    let depth = short_at(content, 14);
+    if depth != 16 && depth != 24 {
+        return Err(broken(11, at + 14));
+    }
+    Ok(depth)
+}
+
+/// The bytes of a frame.
+fn read_align(
+    bytes: &[u8],
+    content: &[u8],
+    at: usize,
+    channels: u16,
+    depth: u16,
+) -> Result<u16, Refused>
+    requires is_content { IsFormatContent bytes.now content.now at }
+    requires long { IsLongEnough content.now }
+    requires channels { channels ≡ channels_of content.now }
+    requires few { channels_of content.now ≤ 6 }
+    requires depth { depth ≡ depth_of content.now }
+    requires known { (depth_of content.now ≡ 16) ⊎ (depth_of content.now ≡ 24) }
+    requires lower { BreaksNoneBelow bytes.now 12 }
+    ensures align { IfOk result (λ align. align ≡ align_of content.now) }
+    ensures is { OnOk result (align_of content.now ≡ channels_of content.now * depth_of content.now / 8) }
+    ensures passed { OnOk result (BreaksNoneBelow bytes.now 13) }
+    ensures err { IfErr result (λ refused. IsRefusalOf bytes.now refused) }
+{
+    let align = short_at(content, 12);
+    if align != channels * depth / 8 {
+        return Err(broken(12, at + 12));
+    }
+    Ok(align)
+}
