@@ -1,12 +1,11 @@
 -- What staging answers is what the machine decides.
-use Rattle.std.proofs.Common.{◌≡◌, ◌≢◌, ◌<◌, ◌||◌, ◌*◌, ◌/◌, ℕ, Bool, true, false, nat_le, List, refl, sym, ap, ◌∙◌, arith, if◌then◌else◌, inl, inr}
+use Rattle.std.proofs.Common.{◌≡◌, ◌≢◌, ◌<◌, ◌||◌, ℕ, Bool, true, false, nat_le, List, length, refl, sym, ap, ◌∙◌, arith, if◌then◌else◌, inl, inr}
 use Rattle.std.proofs.lemmas.Bool.Decides.{nat_tests}
 use Rattle.lib_base.specs.declared.outcomes.Rule.{Rule}
 use Rattle.lib_base.specs.Faults.{Rose}
 use Rattle.lib_base.specs.declared.files.Summary.{Summary}
 use Rattle.file_model.specs.Pcm.{Pcm}
 use Rattle.file_model.specs.Reading.{Reads, accepted}
-use Rattle.file_model.specs.Sizes.{greatest_over}
 use Rattle.library_model.specs.Findings.{IsSummaryOf, Finds, measured, broken_by}
 use Rattle.library_model.specs.declared.messages.Command.TheVariants.{Import}
 use Rattle.library_model.specs.declared.messages.Reply.{Reply}
@@ -88,10 +87,6 @@ RefusesBy-vault s file sound summary reply before now reads lacks is rose =
       memory = other_status reply 502 503 status (omega arith);
     }
 
--- the size of a sample that a summary's peak stands for
-size_of_peak : (sound : Pcm) (summary : Summary) → IsSummaryOf sound summary → summary.peak / 2097152 ≡ greatest_over sound.lists
-size_of_peak sound summary are = let is = are.size in omega (arith, is)
-
 -- a prepared import is that of the request
 Prepares-import : (s : State) (file : List ℕ) (sound : Pcm) (measure : Measure) (p : Prepared) → IsValid s
     → Reads file (accepted sound) → IsMeasureOf sound measure → lacks_numbers (tables_of s) ≡ false
@@ -101,8 +96,8 @@ Prepares-import s file sound measure p valid reads are lacks prepares =
     let left = below_end s.next_recording s.next_take numbers_end lacks in
     let finds : Finds file (measured sound summary) = (reads, are.summary) in
     let reply : p.reply ≡ recording_reply 201 (new_recording s file sound summary) =
-    prepares.reply
-    ∙ ap (λ (size : ℕ). json 201 (recording_text s.next_recording summary size)) (size_of_peak sound summary are.summary) in
+    prepares.reply ∙ ap (λ (k : ℕ). json 201 (recording_text s.next_recording k measure.depth summary)) are.channels
+    ∙ ap (λ (d : ℕ). json 201 (recording_text s.next_recording (length sound.lists) d summary)) are.depth in
     record {
       next = imported s file sound summary;
       decides = (

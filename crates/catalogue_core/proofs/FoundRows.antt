@@ -2,7 +2,6 @@
 use Rattle.std.proofs.Common.{◌≡◌, ◌==◌, ◌*◌, ◌/◌, ℕ, Bool, true, false, Option, Some, List, [], ◌∷◌, cond, length, map, refl, ap, arith}
 use Rattle.std.specs.List.{find}
 use Rattle.std.specs.List.{AllByRecursion}
-use Rattle.file_model.specs.Sizes.{greatest_over}
 use Rattle.library_model.specs.Findings.{Finds, measured}
 use Rattle.keeper_store.specs.declared.row_types.RecordingRow.{RecordingRow}
 use Rattle.library_model.specs.Machine.{found_reply, recording_of}
@@ -11,21 +10,15 @@ use Rattle.library_model.specs.Stands.{recording_row}
 use Rattle.library_model.specs.State.{Recording}
 use Rattle.catalogue_core.specs.Asking.{row_reply}
 
--- the peak of a recording's row gives the size of its greatest sample back
-size_given : (r : Recording) → Finds r.file (measured r.sound r.summary) → r.summary.peak / 2097152 ≡ greatest_over r.sound.lists
-size_given r finds = let is = finds.1.size in omega (arith, is)
-
 -- of a row that passes a test or not, and of those that follow it
 row_reply-first : (passes : Bool) (r : Recording) (row : Option RecordingRow) (recording : Option Recording)
-    → Finds r.file (measured r.sound r.summary) → row_reply row ≡ found_reply recording
+    → row_reply row ≡ found_reply recording
     → row_reply (cond passes (Some (recording_row r)) row) ≡ found_reply (cond passes (Some r) recording)
-row_reply-first true r row recording finds same =
-    ap (λ (size : ℕ). json 200 (recording_text r.id r.summary size)) (size_given r finds)
-row_reply-first false r row recording finds same = same
+row_reply-first true r row recording same = refl
+row_reply-first false r row recording same = same
 
 -- of the rows of recordings
 pub row_reply-rows : (id : ℕ) (recordings : List Recording)
-    → AllByRecursion (λ (r : Recording). Finds r.file (measured r.sound r.summary)) recordings
     → row_reply (find (λ (row : RecordingRow). row.id == id) (map recording_row recordings)) ≡ found_reply (recording_of id recordings)
-row_reply-rows id [] all = refl
-row_reply-rows id (r ∷ recordings) all = row_reply-first (r.id == id) r _ _ all.0 (row_reply-rows id recordings all.1)
+row_reply-rows id [] = refl
+row_reply-rows id (r ∷ recordings) = row_reply-first (r.id == id) r _ _ (row_reply-rows id recordings)

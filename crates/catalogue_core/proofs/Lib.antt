@@ -1,5 +1,6 @@
 pub mod Changing
 pub mod Deciding
 pub mod FoundRows
-pub mod Measuring
+pub mod Greatest
+pub mod Lengths
 pub mod Texts

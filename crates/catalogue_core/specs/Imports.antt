@@ -1,5 +1,5 @@
 -- What an import changes in the tables.
-use Rattle.std.specs.Prelude.{◌≡◌, ◌+◌, ◌/◌, ◌⊎◌, ◌||◌, ℕ, Bool, true, false, nat_le, List, [], ◌∷◌, None}
+use Rattle.std.specs.Prelude.{◌≡◌, ◌+◌, ◌⊎◌, ◌||◌, ℕ, Bool, true, false, nat_le, List, [], ◌∷◌, None}
 use Rattle.md5.specs.Md5.{md5}
 use Rattle.lib_base.specs.declared.files.Kind.TheVariants.{Wave}
 use Rattle.lib_base.specs.Faults.{Rose}
@@ -43,7 +43,7 @@ import_changes t file measure =
 -- The prepared change is the import of a file of that measure into those tables.
 pub record PreparesImport (t : Tables) (file : List ℕ) (measure : Measure) (p : Prepared) : Type 0 where
   pub changes : p.batch.changes ≡ import_changes t file measure
-  pub reply : p.reply ≡ json 201 (recording_text t.next_recording measure.summary (measure.summary.peak / 2097152))
+  pub reply : p.reply ≡ json 201 (recording_text t.next_recording measure.channels measure.depth measure.summary)
 
 -- no number is left for the next recording, or none for its take
 abbrev pub lacks_numbers : Tables → Bool

@@ -1,7 +1,8 @@
 -- Replies as JSON's objects.
-use Rattle.std.specs.Prelude.{ℕ, suc, ℤ, pos, negsuc, codes, Option, None, Some}
-use Rattle.serde_json.specs.Data.{Data, null, number, unsigned, negative, object, member, no_members}
-use Rattle.lib_base.specs.declared.files.Summary.{Summary}
+use Rattle.std.specs.Prelude.{ℕ, ℤ, pos, negsuc, List, codes, Option, None, Some}
+use Rattle.serde_json.specs.Data.{Data, null, number, unsigned, negative, string, object, member, no_members}
+use Rattle.library_model.specs.Replies.{recording_text}
+use Rattle.catalogue_core.specs.declared.reply_texts.Described.{Described}
 
 -- a level, or null where it is absent
 abbrev pub level_data : Option ℤ → Data
@@ -9,11 +10,21 @@ level_data None = null
 level_data (Some (pos n)) = number (unsigned n)
 level_data (Some (negsuc n)) = number (negative (negsuc n))
 
--- a recording
-abbrev pub recording_object : ℕ → Summary → ℕ → Data
-recording_object id summary sample_peak =
-    object (member (codes "frames") (number (unsigned summary.frames))
-    (member (codes "gain") (level_data summary.gain)
-    (member (codes "id") (number (unsigned id))
-    (member (codes "loudness") (level_data summary.loudness)
-    (member (codes "sample_peak") (number (unsigned sample_peak)) no_members)))))
+-- a recording as it is described, with the text of its peak
+abbrev pub recording_object : Described → List ℕ → Data
+recording_object r peak =
+    object (member (codes "channels") (number (unsigned r.channels))
+    (member (codes "depth") (number (unsigned r.depth))
+    (member (codes "frames") (number (unsigned r.summary.frames))
+    (member (codes "gain") (level_data r.summary.gain)
+    (member (codes "id") (number (unsigned r.id))
+    (member (codes "loudness") (level_data r.summary.loudness)
+    (member (codes "momentary") (level_data r.summary.momentary)
+    (member (codes "peak") (string peak)
+    (member (codes "range") (level_data r.summary.range)
+    (member (codes "short") (level_data r.summary.short_term)
+    (member (codes "true_peak") (level_data r.summary.true_peak) no_members)))))))))))
+
+-- the text of a recording as it is described
+abbrev pub described_text : Described → List ℕ
+described_text r = recording_text r.id r.channels r.depth r.summary

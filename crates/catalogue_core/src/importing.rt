@@ -6,7 +6,7 @@ ghost use Rattle.catalogue_core.specs.Committing.{Fits};
 ghost use Rattle.catalogue_core.specs.Kept.{kept_tables};
 
 use crate::measures::Measure;
-use crate::reply_texts::{describe_recording, refuse};
+use crate::reply_texts::{Described, describe_recording, refuse};
 use crate::{Library, Prepared};
 use keeper_store::{Batch, Change, RecordingRow, Rows, SegmentRow, bytes_of};
 use lib_base::{Kind, Memory, Text};
@@ -27,7 +27,13 @@ pub fn prepare_import(
     let alloc = library.alloc;
     library.recordings.reserve(3)?;
     library.segments.reserve(3)?;
-    let reply = describe_recording(alloc, 201, library.next_recording, &measure.summary)?;
+    let described = Described {
+        id: library.next_recording,
+        channels: measure.channels,
+        depth: measure.depth,
+        summary: measure.summary,
+    };
+    let reply = describe_recording(alloc, 201, described)?;
     let keeper_refusal = refuse(alloc, 504, "keeper")?;
     let memory_refusal = refuse(alloc, 503, "memory")?;
     let batch = import_batch(library, file, measure)?;

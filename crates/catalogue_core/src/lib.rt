@@ -18,6 +18,7 @@ mod opening;
 mod prepared;
 mod reply_texts;
 mod staging;
+mod summaries;
 #[cfg(test)]
 mod tests;
 

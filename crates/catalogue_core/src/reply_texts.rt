@@ -1,14 +1,23 @@
 //! The bodies of replies.
-ghost use Rattle.std.specs.Prelude.{◌≡◌, ◌/◌, IfOk, string_bytes};
-ghost use Rattle.catalogue_core.specs.Objects.{recording_object};
+ghost use Rattle.std.specs.Prelude.{◌≡◌, IfOk, string_bytes};
+ghost use Rattle.catalogue_core.specs.Objects.{described_text, recording_object};
 ghost use Rattle.serde_json.specs.View.{view};
 ghost use Rattle.library_model.specs.Replies as model;
 
-use crate::examining::SAMPLE_UNIT;
+use db_table::peak_text;
 use lib_base::{Broken, Bytes, Memory, Summary};
 use library_model::{BodyKind, Reply};
 use serde_json::{Value, json};
 use std::alloc::{AllocError, Global};
+
+/// A recording as it is described: its id, its channels, the bits of a sample, and its levels.
+#[derive(Clone, Copy, Debug)]
+pub struct Described {
+    pub id: u32,
+    pub channels: u8,
+    pub depth: u8,
+    pub summary: Summary,
+}
 
 /// A refusal that is named by a word.
 pub fn refuse(alloc: Global, status: u16, word: &str) -> Result<Reply, Memory>
@@ -27,35 +36,44 @@ pub fn refuse_format(alloc: Global, broken: Broken) -> Result<Reply, Memory>
     Ok(json_reply(422, text))
 }
 
-/// What is replied about a recording of that id and those levels.
-pub fn describe_recording(
-    alloc: Global,
-    status: u16,
-    id: u32,
-    summary: &Summary,
-) -> Result<Reply, Memory>
-    ensures { IfOk result (λ reply. reply ≡ model.json status (model.recording_text id summary.now (summary.now.peak / 2097152))) }
+/// What is replied about a recording.
+pub fn describe_recording(alloc: Global, status: u16, recording: Described) -> Result<Reply, Memory>
+    ensures { IfOk result (λ reply. reply ≡ model.json status (described_text recording)) }
 {
-    let text = recording_text(alloc, id, summary)?;
+    let text = recording_text(alloc, recording)?;
     Ok(json_reply(status, text))
 }
 
-fn recording_text(alloc: Global, id: u32, summary: &Summary) -> Result<String, AllocError>
-    ensures { IfOk result (λ text. string_bytes text ≡ model.recording_text id summary.now (summary.now.peak / 2097152)) }
+fn recording_text(alloc: Global, recording: Described) -> Result<String, Memory>
+    ensures { IfOk result (λ text. string_bytes text ≡ described_text recording) }
 {
-    let value = recording_value(alloc, id, summary)?;
-    value.to_string(alloc)
+    let peak = peak_text(alloc, recording.summary.peak)?;
+    let value = recording_value(alloc, recording, peak.as_str())?;
+    let text = value.to_string(alloc)?;
+    Ok(text)
 }
 
-fn recording_value(alloc: Global, id: u32, summary: &Summary) -> Result<Value, AllocError>
-    ensures { IfOk result (λ value. view value ≡ recording_object id summary.now (summary.now.peak / 2097152)) }
+fn recording_value(alloc: Global, recording: Described, peak: &str) -> Result<Value, AllocError>
+    ensures { IfOk result (λ value. view value ≡ recording_object recording peak.now) }
 {
+    let Described {
+        id,
+        channels,
+        depth,
+        summary,
+    } = recording;
     json!(in alloc; {
+        "channels": channels,
+        "depth": depth,
         "frames": summary.frames,
         "gain": summary.gain,
         "id": id,
         "loudness": summary.loudness,
-        "sample_peak": summary.peak / SAMPLE_UNIT
+        "momentary": summary.momentary,
+        "peak": peak,
+        "range": summary.range,
+        "short": summary.short_term,
+        "true_peak": summary.true_peak
     })
 }
 

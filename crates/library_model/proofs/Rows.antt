@@ -1,5 +1,5 @@
 -- Worked rows: what the definitions say of one recording, of its replies and of one request.
-use Rattle.std.proofs.Common.{◌≡◌, ◌==◌, ℕ, true, false, Some, None, List, [], ◌∷◌, ◌++◌, codes, refl, inl, arith}
+use Rattle.std.proofs.Common.{◌≡◌, ◌==◌, ◌*◌, ◌^◌, ℕ, true, false, Some, None, List, [], ◌∷◌, ◌++◌, codes, refl, inl, arith}
 use Rattle.std.proofs.lemmas.List.Elements.{All-from_recursion}
 use Rattle.std.proofs.lemmas.Bool.Decides.{nat_tests}
 use Rattle.std.specs.List.{AllByRecursion}
@@ -9,10 +9,17 @@ use Rattle.std.specs.Char.{encode_utf8}
 use Rattle.httparse.proofs.OnLiterals.{httparse_on_literals}
 use Rattle.httparse.specs.Grammar.{RequestHead, IsField, ReadsRequest, crlf, is_token_byte, is_uri_byte, is_value_byte}
 use Rattle.md5.specs.Md5.{md5, block_words, rounds, compress, hash_after, digest_bytes}
-use Rattle.lib_base.specs.declared.outcomes.Rule.TheVariants.{K}
+use Rattle.lib_base.specs.declared.outcomes.Rule.TheVariants.{V}
 use Rattle.lib_base.specs.declared.files.Summary.{Summary}
 use Rattle.file_model.specs.Pcm.{Pcm}
 use Rattle.file_model.proofs.Rows.{four_frames, four_samples, sixteen_bits, four_frames_read}
+use Rattle.std.specs.Prelude.{negsuc}
+use Rattle.json.specs.Print.{escape_byte}
+use Rattle.sound_model.specs.Levels.{IsLevel, entry, hundredths}
+use Rattle.sound_model.specs.Peaks.{scaled}
+use Rattle.sound_model.specs.Texts.{millionths}
+use Rattle.sound_model.proofs.LevelLaws.{level_from_root}
+use Rattle.sound_model.proofs.LevelTable.{later_places_pass}
 use Rattle.library_model.specs.Findings.{Finds, measured, broken_by}
 use Rattle.library_model.specs.declared.messages.Command.TheVariants.{Import}
 use Rattle.library_model.specs.Asked.{change, question}
@@ -29,7 +36,7 @@ use Rattle.library_model.specs.State.{Recording, State, IsGiven, IsValid, empty_
 abbrev pub row_sound : Pcm
 row_sound = sixteen_bits 4 (four_samples ∷ [])
 
--- The levels of that sound: four frames make no block, so it has no loudness. Its peak is half of full scale.
+-- The levels of that sound: four frames make no block and no window, so only its peak has a level, which is 0.537233 of full scale.
 abbrev pub row_summary : Summary
 row_summary = record {
   frames = 4;
@@ -37,10 +44,20 @@ row_summary = record {
   range = None;
   momentary = None;
   short_term = None;
-  true_peak = None;
-  peak = 34359738368;
+  true_peak = Some (negsuc 539);
+  peak = 36918363648;
   gain = None;
 }
+
+row_level : IsLevel (36918363648 ^ 2) (2 ^ 72) (negsuc 1079)
+unfolding entry
+row_level =
+    level_from_root (36918363648 ^ 2) (2 ^ 72) 0 920 (omega arith) (omega arith) (omega arith) (omega arith)
+    (later_places_pass 921 (36918363648 ^ 2 * 10 * 10 ^ 9) (2 ^ 72) (omega arith))
+
+row_rounded : negsuc 539 ≡ hundredths (negsuc 1079)
+unfolding hundredths
+row_rounded = refl
 
 -- The recording that it becomes as the first one.
 abbrev pub row_recording : Recording
@@ -48,15 +65,16 @@ row_recording = record { id = 1; take = 1; file = four_frames 1; sound = row_sou
 
 -- The file is found to be that sound, with those levels.
 pub row_file-Finds : Finds row_recording.file (measured row_recording.sound row_recording.summary)
+unfolding scaled
 row_file-Finds = (four_frames_read, record {
-  counted = refl;
+  frames_kept = refl;
   loudness = tt;
+  range = tt;
+  momentary = tt;
+  short_term = tt;
+  true_peak = record { level = negsuc 1079; of_ratio = row_level; rounded = row_rounded };
+  peak_kept = refl;
   gain = refl;
-  size = refl;
-  no_range = refl;
-  no_momentary = refl;
-  no_short_term = refl;
-  no_true_peak = refl;
 })
 
 -- The MD5 of the file.
@@ -70,21 +88,21 @@ recording_row-digest = refl
 -- The reply to its import.
 pub spelled-recording_reply : spelled false (recording_reply 201 row_recording)
     ≡ codes "HTTP/1.1 201 Created" ++ 13 ∷ 10 ∷ codes "Content-Type: application/json"
-    ++ 13 ∷ 10 ∷ codes "Content-Length: 67"
-    ++ 13 ∷ 10 ∷ 13 ∷ 10 ∷ codes "{\"frames\":4,\"gain\":null,\"id\":1,\"loudness\":null,\"sample_peak\":16384}"
-unfolding digits
+    ++ 13 ∷ 10 ∷ codes "Content-Length: 149"
+    ++ 13 ∷ 10 ∷ 13 ∷ 10 ∷ codes "{\"channels\":1,\"depth\":16,\"frames\":4,\"gain\":null,\"id\":1,\"loudness\":null,\"momentary\":null,\"peak\":\"0.537233\",\"range\":null,\"short\":null,\"true_peak\":-540}"
+unfolding digits millionths escape_byte
 spelled-recording_reply = refl
 
--- The body of the refusal of a form that is not known.
-pub format_refusal-body : (format_refusal (K 0) 0).body ≡ codes "{\"error\":\"format\",\"place\":0,\"rule\":\"K0\"}"
+-- The body of the refusal of a file whose size field is wrong.
+pub format_refusal-body : (format_refusal (V 3) 4).body ≡ codes "{\"error\":\"format\",\"place\":4,\"rule\":\"V3\"}"
 unfolding digits
 format_refusal-body = refl
 
 -- The whole of that refusal.
-pub spelled-format_refusal : spelled false (format_refusal (K 0) 0)
+pub spelled-format_refusal : spelled false (format_refusal (V 3) 4)
     ≡ codes "HTTP/1.1 422 Unprocessable Content" ++ 13 ∷ 10 ∷ codes "Content-Type: application/json"
     ++ 13 ∷ 10 ∷ codes "Content-Length: 40"
-    ++ 13 ∷ 10 ∷ 13 ∷ 10 ∷ codes "{\"error\":\"format\",\"place\":0,\"rule\":\"K0\"}"
+    ++ 13 ∷ 10 ∷ 13 ∷ 10 ∷ codes "{\"error\":\"format\",\"place\":4,\"rule\":\"V3\"}"
 unfolding digits
 spelled-format_refusal = refl
 
@@ -333,15 +351,15 @@ RequestsOf-nothing = inl (omega arith, ([], refl, refl))
 
 -- The first import is accepted as recording 1.
 pub import_verdict-accepts : import_verdict empty_state (four_frames 1) (measured row_sound row_summary)
-    ≡ accepts (json 201 (codes "{\"frames\":4,\"gain\":null,\"id\":1,\"loudness\":null,\"sample_peak\":16384}"))
+    ≡ accepts (json 201 (codes "{\"channels\":1,\"depth\":16,\"frames\":4,\"gain\":null,\"id\":1,\"loudness\":null,\"momentary\":null,\"peak\":\"0.537233\",\"range\":null,\"short\":null,\"true_peak\":-540}"))
     (record { next_album = 1; next_recording = 2; next_take = 2; recordings = row_recording ∷ [] })
-unfolding digits
+unfolding digits millionths escape_byte
 import_verdict-accepts = refl
 
 -- From the state that it leads to, a question after recording 1 is answered with the same body.
 pub question_reply-imported : question_reply (imported empty_state (four_frames 1) row_sound row_summary) (about.Recording 1)
-    ≡ json 200 (codes "{\"frames\":4,\"gain\":null,\"id\":1,\"loudness\":null,\"sample_peak\":16384}")
-unfolding digits
+    ≡ json 200 (codes "{\"channels\":1,\"depth\":16,\"frames\":4,\"gain\":null,\"id\":1,\"loudness\":null,\"momentary\":null,\"peak\":\"0.537233\",\"range\":null,\"short\":null,\"true_peak\":-540}")
+unfolding digits millionths escape_byte
 question_reply-imported = refl
 
 -- Another one finds nothing.
@@ -361,8 +379,8 @@ recording_of-zero s valid = not_given s.next_recording s.recordings valid.ids_gi
         rw other (not_given next recordings given.1)
 
 -- A file that breaks a rule is refused by it.
-pub import_verdict-broken : import_verdict empty_state (codes "RIFF") (broken_by (K 0) 0)
-    ≡ stays (json 422 (codes "{\"error\":\"format\",\"place\":0,\"rule\":\"K0\"}"))
+pub import_verdict-broken : import_verdict empty_state (codes "RIFF") (broken_by (V 3) 4)
+    ≡ stays (json 422 (codes "{\"error\":\"format\",\"place\":4,\"rule\":\"V3\"}"))
 unfolding digits
 import_verdict-broken = refl
 
@@ -377,12 +395,12 @@ import_verdict-full = refl
 
 -- The state before it has one number left.
 pub import_verdict-last : import_verdict (record row_full { next_recording = 2147483646 }) (four_frames 1) (measured row_sound row_summary)
-    ≡ accepts (json 201 (codes "{\"frames\":4,\"gain\":null,\"id\":2147483646,\"loudness\":null,\"sample_peak\":16384}"))
+    ≡ accepts (json 201 (codes "{\"channels\":1,\"depth\":16,\"frames\":4,\"gain\":null,\"id\":2147483646,\"loudness\":null,\"momentary\":null,\"peak\":\"0.537233\",\"range\":null,\"short\":null,\"true_peak\":-540}"))
     (record {
       next_album = 1;
       next_recording = 2147483647;
       next_take = 2;
       recordings = record row_recording { id = 2147483646 } ∷ [];
     })
-unfolding digits
+unfolding digits millionths escape_byte
 import_verdict-last = refl

@@ -1,9 +1,8 @@
 -- The library as a machine: how it answers a request, and where it goes from there.
-use Rattle.std.specs.Prelude.{◌≡◌, ◌+◌, ◌||◌, ◌==◌, ℕ, List, [], ◌∷◌, nat_le, Option, None, Some, if◌then◌else◌, ⊤}
+use Rattle.std.specs.Prelude.{◌≡◌, ◌+◌, ◌||◌, ◌==◌, ℕ, List, [], ◌∷◌, length, nat_le, Option, None, Some, if◌then◌else◌, ⊤}
 use Rattle.std.specs.List.{find}
 use Rattle.lib_base.specs.declared.files.Summary.{Summary}
 use Rattle.file_model.specs.Pcm.{Pcm}
-use Rattle.file_model.specs.Sizes.{greatest_over}
 use Rattle.keeper_store.specs.Puts.{put}
 use Rattle.library_model.specs.declared.messages.Command.{Command}
 use Rattle.library_model.specs.declared.messages.Command.TheVariants.{Import}
@@ -22,7 +21,7 @@ pub data Verdict : Type 0 where
 
 -- what is replied about a recording
 abbrev pub recording_reply : ℕ → Recording → Reply
-recording_reply status r = json status (recording_text r.id r.summary (greatest_over r.sound.lists))
+recording_reply status r = json status (recording_text r.id (length r.sound.lists) r.sound.depth r.summary)
 
 -- the recording that an import makes, under the next numbers
 abbrev pub new_recording : State → List ℕ → Pcm → Summary → Recording

@@ -1,9 +1,11 @@
 -- Replies, and the bytes that spell them (RFC 9112, RFC 8259).
 use Rattle.std.specs.Prelude.{ℕ, ℤ, Bool, true, false, List, [], ◌∷◌, ◌++◌, ◌==◌, length, codes, decimal, Option, None, Some, if◌then◌else◌}
 use Rattle.std.specs.Fmt.{signed_decimal}
+use Rattle.json.specs.Print.{quoted}
 use Rattle.lib_base.specs.declared.files.Summary.{Summary}
 use Rattle.lib_base.specs.declared.outcomes.Rule.{Rule}
 use Rattle.lib_base.specs.Rules.{rule_text}
+use Rattle.sound_model.specs.Texts.{peak_text}
 use Rattle.library_model.specs.declared.messages.BodyKind.{BodyKind}
 use Rattle.library_model.specs.declared.messages.BodyKind.TheVariants.{Json, Csv, Wave, Flac}
 use Rattle.library_model.specs.declared.messages.Reply.{Reply}
@@ -103,12 +105,18 @@ abbrev pub level_text : Option ℤ → List ℕ
 level_text None = codes "null"
 level_text (Some level) = signed_decimal level
 
--- a recording as it is answered: its frames, gain, id and loudness, and the greatest size of its samples
-abbrev pub recording_text : ℕ → Summary → ℕ → List ℕ
-recording_text id summary sample_peak =
-    codes "{\"frames\":" ++ decimal summary.frames
+-- a recording as it is answered: its channels, the bits of a sample, its frames, and its levels; the peak is a text, 1 being full scale
+abbrev pub recording_text : ℕ → ℕ → ℕ → Summary → List ℕ
+recording_text id channels depth summary =
+    codes "{\"channels\":" ++ decimal channels
+    ++ codes ",\"depth\":" ++ decimal depth
+    ++ codes ",\"frames\":" ++ decimal summary.frames
     ++ codes ",\"gain\":" ++ level_text summary.gain
     ++ codes ",\"id\":" ++ decimal id
     ++ codes ",\"loudness\":" ++ level_text summary.loudness
-    ++ codes ",\"sample_peak\":" ++ decimal sample_peak
+    ++ codes ",\"momentary\":" ++ level_text summary.momentary
+    ++ codes ",\"peak\":" ++ quoted (peak_text summary.peak)
+    ++ codes ",\"range\":" ++ level_text summary.range
+    ++ codes ",\"short\":" ++ level_text summary.short_term
+    ++ codes ",\"true_peak\":" ++ level_text summary.true_peak
     ++ codes "}"

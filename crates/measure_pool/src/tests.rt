@@ -1,7 +1,7 @@
-//! Worked sounds. A script in whole numbers computed their energies from the definition.
+//! Worked sounds. A script in whole numbers computed their energies and peak from the definition.
 ghost use Rattle.std.specs.Prelude.{◌≡◌, ◌<◌, ◌^◌};
 
-use crate::energies;
+use crate::{energies, peak};
 use lib_base::{Memory, PcmSound};
 use std::alloc::Global;
 use std::test::Fail;
@@ -24,7 +24,9 @@ fn sounds_are_measured(rt: HostRuntime) -> Result<(), Fail> {
         two.as_slice(),
         [29_866_476_116_688_268_800, 23_515_800].as_slice()
     );
-    let none = energies(alloc, &stereo(alloc, 4799)?)?;
+    let sound = stereo(alloc, 4799)?;
+    assert_eq!(rt; peak(alloc, &sound)?, 38_340_132_864);
+    let none = energies(alloc, &sound)?;
     assert_eq!(rt; none.len(), 0);
     Ok(())
 }

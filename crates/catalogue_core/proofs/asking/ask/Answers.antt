@@ -26,6 +26,6 @@ returns-clause-answers g c = λ s keeps.
     let id = id_of c.args.question.now in
     let answered = rw is at c.ask_recording.ensures in
     let looked_up : List RecordingRow → Reply = λ rows. row_reply (find (λ (row : RecordingRow). row.id == id) rows) in
-    let told = ap looked_up (ap (λ (t : Tables). t.recordings) keeps.rows) ∙ row_reply-rows id s.recordings keeps.valid.files in
+    let told = ap looked_up (ap (λ (t : Tables). t.recordings) keeps.rows) ∙ row_reply-rows id s.recordings in
     rw is (IfOk-weaker c.ask_recording.result (λ reply. reply ≡ looked_up c.args.library.now.recordings.items)
     (λ reply. reply ≡ question_reply s (about.Recording id)) (λ reply same. same ∙ told) answered)

@@ -1,0 +1,27 @@
+-- How many frames a wave file can hold.
+use Rattle.std.proofs.Common.{◌≡◌, ◌∙◌, ◌≤◌, ◌<◌, ◌+◌, ◌*◌, ◌/◌, ◌^◌, ℕ, zero, suc, List, [], ◌∷◌, length, codes, ap, arith}
+use Rattle.file_model.specs.Chunks.{Chunk}
+use Rattle.file_model.specs.Pcm.{Pcm, interleaved}
+use Rattle.file_model.specs.Wave.{IsWaveOf}
+use Rattle.file_model.proofs.Interleaving.{length-interleaved}
+use Rattle.file_model.proofs.Makes.{content_named}
+use Rattle.file_model.proofs.Samples.{AreBytes, length-bytes}
+use Rattle.file_model.proofs.Waves.{chunks_of_wave, size_positive}
+
+within_product : (a n : ℕ) → 0 < a → n ≤ a * n
+within_product zero n some = absurd (omega (arith, some))
+within_product (suc a) n some = omega arith
+
+-- a sound's frames are fewer than the bytes that its samples take, which a chunk's length field can say
+pub frames_fit : (bytes : List ℕ) (chunks : List Chunk) (sound : Pcm) → AreBytes bytes → IsWaveOf bytes chunks sound → sound.frames < 2 ^ 32
+frames_fit bytes chunks sound are wave =
+    let begins = chunks_of_wave bytes chunks sound wave in
+    let content = content_named bytes chunks (codes "data") wave.data_chunk [] are begins wave.one_data in
+    let known = wave.is_format.depth_known in
+    let count = length sound.lists * sound.frames in
+    let long : length wave.data_chunk.content ≡ sound.depth / 8 * count =
+    ap length wave.samples ∙ length-bytes sound.depth (interleaved sound.frames sound.lists) known
+    ∙ ap (λ (n : ℕ). sound.depth / 8 * n) (length-interleaved sound.frames sound.lists) in
+    let each = within_product (length sound.lists) sound.frames wave.is_sound.has_channel in
+    let all = within_product (sound.depth / 8) count (size_positive sound.depth known) in
+    omega (arith, each, all, long, content.short)

@@ -1,0 +1,84 @@
+//! The levels that follow from what is measured.
+ghost use Rattle.std.specs.Prelude.{◌≡◌, ◌≤◌, ◌*◌, ◌^◌, ℕ, length, unsigned_abs, All, option_map, IfOk, IfSome};
+ghost use Rattle.gate_blocks.specs.Bounds.{AreSegments};
+ghost use Rattle.sound_model.specs.Loudness as model;
+ghost use Rattle.sound_model.specs.Summaries.{Summarises, IsPeakLevel, gain_of};
+
+use db_table::{hundredths, level};
+use gate_blocks::{block_level, window_level};
+use lib_base::{Memory, Summary};
+use std::alloc::Global;
+
+/// The loudness to which a gain brings a recording, in hundredths of LUFS (ReplayGain 2.0).
+const REFERENCE: i32 = -1800;
+
+/// The levels of so many frames with these energies of segments and this peak. What can't be
+/// measured is absent.
+pub fn summarise(
+    alloc: Global,
+    frames: u64,
+    segments: &[u128],
+    peak: u64,
+) -> Result<Summary, Memory>
+    requires segments { AreSegments segments.now }
+    requires few { length segments.now ≤ 2 ^ 25 }
+    requires peak { peak ≤ 16571 * 2 ^ 23 }
+    ensures { IfOk result (Summarises frames segments.now peak) }
+{
+    let blocks = gate_blocks::blocks(alloc, segments)?;
+    let windows = gate_blocks::windows(alloc, segments)?;
+    let loudness = gate_blocks::loudness(blocks.as_slice());
+    Ok(Summary {
+        frames,
+        loudness,
+        range: loudness_range::range(alloc, windows.as_slice())?,
+        momentary: block_level(greatest(blocks.as_slice())),
+        short_term: window_level(greatest(windows.as_slice())),
+        true_peak: peak_level(peak),
+        peak,
+        gain: gain_for(loudness),
+    })
+}
+
+/// The greatest of energies, and 0 where there is none.
+fn greatest(energies: &[u128]) -> u128
+    ensures value { result ≡ model.greatest energies.now }
+    ensures within { (limit : ℕ) → All (λ e. e ≤ limit) energies.now → result ≤ limit }
+{
+    let mut most = 0u128;
+    for energy in energies {
+        most = most.max(*energy);
+    }
+    most
+}
+
+/// The true peak of a peak, absent exactly where it is 0.
+fn peak_level(peak: u64) -> Option<i32>
+    requires { peak ≤ 16571 * 2 ^ 23 }
+    ensures { model.IfThere IsPeakLevel (model.above_zero peak) result }
+{
+    if peak == 0 {
+        return None;
+    }
+    Some(hundredths(level(squared(peak), 1 << 72)))
+}
+
+fn squared(peak: u64) -> u128
+    requires { peak ≤ 16571 * 2 ^ 23 }
+    ensures value { result ≡ peak ^ 2 }
+    ensures bound { result ≤ 2 ^ 76 }
+{
+    let size = u128::from(peak);
+    size * size
+}
+
+/// The gain that brings a loudness to that of the reference.
+fn gain_for(loudness: Option<i32>) -> Option<i32>
+    requires { IfSome loudness (λ v. unsigned_abs v ≤ 28000) }
+    ensures { result ≡ option_map gain_of loudness }
+{
+    match loudness {
+        Some(level) => Some(REFERENCE - level),
+        None => None,
+    }
+}
