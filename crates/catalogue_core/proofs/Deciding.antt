@@ -6,7 +6,7 @@ use Rattle.lib_base.specs.Faults.{Rose}
 use Rattle.lib_base.specs.declared.files.Summary.{Summary}
 use Rattle.file_model.specs.Pcm.{Pcm}
 use Rattle.file_model.specs.Reading.{Reads, accepted}
-use Rattle.library_model.specs.Findings.{IsSummaryOf, Finds, measured, broken_by}
+use Rattle.library_model.specs.Findings.{Finds, measured, broken_by}
 use Rattle.library_model.specs.declared.messages.Command.TheVariants.{Import}
 use Rattle.library_model.specs.declared.messages.Reply.{Reply}
 use Rattle.library_model.specs.declared.messages.Request.{Request}

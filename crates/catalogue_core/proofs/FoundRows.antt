@@ -1,11 +1,8 @@
 -- What is replied about a row is what is replied about its recording.
-use Rattle.std.proofs.Common.{◌≡◌, ◌==◌, ◌*◌, ◌/◌, ℕ, Bool, true, false, Option, Some, List, [], ◌∷◌, cond, length, map, refl, ap, arith}
+use Rattle.std.proofs.Common.{◌≡◌, ◌==◌, ℕ, Bool, true, false, Option, Some, List, [], ◌∷◌, cond, map, refl}
 use Rattle.std.specs.List.{find}
-use Rattle.std.specs.List.{AllByRecursion}
-use Rattle.library_model.specs.Findings.{Finds, measured}
 use Rattle.keeper_store.specs.declared.row_types.RecordingRow.{RecordingRow}
 use Rattle.library_model.specs.Machine.{found_reply, recording_of}
-use Rattle.library_model.specs.Replies.{json, recording_text}
 use Rattle.library_model.specs.Stands.{recording_row}
 use Rattle.library_model.specs.State.{Recording}
 use Rattle.catalogue_core.specs.Asking.{row_reply}

@@ -1,5 +1,5 @@
 -- How many frames a wave file can hold.
-use Rattle.std.proofs.Common.{◌≡◌, ◌∙◌, ◌≤◌, ◌<◌, ◌+◌, ◌*◌, ◌/◌, ◌^◌, ℕ, zero, suc, List, [], ◌∷◌, length, codes, ap, arith}
+use Rattle.std.proofs.Common.{◌≡◌, ◌∙◌, ◌≤◌, ◌<◌, ◌*◌, ◌/◌, ◌^◌, ℕ, zero, suc, List, [], length, codes, ap, arith}
 use Rattle.file_model.specs.Chunks.{Chunk}
 use Rattle.file_model.specs.Pcm.{Pcm, interleaved}
 use Rattle.file_model.specs.Wave.{IsWaveOf}

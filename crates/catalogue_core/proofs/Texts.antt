@@ -1,5 +1,5 @@
 -- The text of a recording, as JSON writes it.
-use Rattle.std.proofs.Common.{◌≡◌, ◌++◌, ℕ, List, Option, None, Some, Bool, false, codes, append_assoc, refl, ap, ◌∙◌}
+use Rattle.std.proofs.Common.{◌≡◌, ◌++◌, ℕ, List, Option, None, Some, false, codes, append_assoc, refl, ap, ◌∙◌}
 use Rattle.std.specs.Prelude.{ℤ, pos, negsuc, decimal}
 use Rattle.std.specs.Option.{MatchOption}
 use Rattle.json.specs.Print.{quoted}
@@ -10,7 +10,7 @@ use Rattle.serde_json.specs.declared.value.Value.{Value}
 use Rattle.serde_json.specs.Written.{compact_text, has_float}
 use Rattle.serde_json.proofs.OnLiterals.{serde_json_on_literals}
 use Rattle.sound_model.specs.Texts.{peak_text}
-use Rattle.library_model.specs.Replies.{recording_text, level_text}
+use Rattle.library_model.specs.Replies.{level_text}
 use Rattle.catalogue_core.specs.declared.reply_texts.Described.{Described}
 use Rattle.catalogue_core.specs.Objects.{level_data, recording_object, described_text}
 

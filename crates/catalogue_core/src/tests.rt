@@ -6,6 +6,7 @@ use crate::{BadRow, Library, OpenRefusal, Staged, ask, commit, stage};
 use keeper_store::{Keeper, MemKeeper, MemVault, Tables, Vault};
 use lib_base::{Bytes, Memory};
 use library_model::{Command, Question, Reply, Request};
+use std::alloc::Global;
 use std::test::Fail;
 
 /// A wave of the samples 0, 16384, -16384 and 1.
@@ -71,18 +72,22 @@ fn imports_are_answered_in_turn(rt: HostRuntime) -> Result<(), Fail> {
     let mut vault = MemVault::new(alloc, [1].to_vec(alloc)?);
     let mut library = Library::open(alloc, &mut keeper)?;
     for (file, status, body) in [
-        (&stereo, 422, r#"{"error":"format","place":0,"rule":"K0"}"#),
+        (
+            &stereo,
+            422,
+            r#"{"error":"format","place":32,"rule":"V12"}"#,
+        ),
         (&FOUR, 502, r#"{"error":"vault"}"#),
         (&FOUR, 504, r#"{"error":"keeper"}"#),
         (
             &FOUR,
             201,
-            r#"{"frames":4,"gain":null,"id":1,"loudness":null,"sample_peak":16384}"#,
+            r#"{"channels":1,"depth":16,"frames":4,"gain":null,"id":1,"loudness":null,"momentary":null,"peak":"0.537233","range":null,"short":null,"true_peak":-540}"#,
         ),
         (
             &FOUR,
             201,
-            r#"{"frames":4,"gain":null,"id":2,"loudness":null,"sample_peak":16384}"#,
+            r#"{"channels":1,"depth":16,"frames":4,"gain":null,"id":2,"loudness":null,"momentary":null,"peak":"0.537233","range":null,"short":null,"true_peak":-540}"#,
         ),
     ] {
         let reply = import(&mut library, file.as_slice(), &mut keeper, &mut vault)?;
@@ -110,7 +115,7 @@ fn an_import_is_kept(rt: HostRuntime) -> Result<(), Fail> {
     let row = &rows[0];
     assert_eq!(rt;
         (row.id, row.take, row.summary.frames, row.summary.peak),
-        (1, 1, 4, 34_359_738_368)
+        (1, 1, 4, 36_918_363_648)
     );
     assert_eq!(rt; row.digest, FOUR_DIGEST);
     let held = vault.get(1)?;
@@ -132,7 +137,7 @@ fn a_question_is_answered_from_the_rows(rt: HostRuntime) -> Result<(), Fail> {
         (
             1,
             200,
-            r#"{"frames":4,"gain":null,"id":1,"loudness":null,"sample_peak":16384}"#,
+            r#"{"channels":1,"depth":16,"frames":4,"gain":null,"id":1,"loudness":null,"momentary":null,"peak":"0.537233","range":null,"short":null,"true_peak":-540}"#,
         ),
         (2, 404, r#"{"error":"no-recording"}"#),
     ] {
@@ -141,5 +146,82 @@ fn a_question_is_answered_from_the_rows(rt: HostRuntime) -> Result<(), Fail> {
         assert_eq!(rt; reply.body.as_slice(), body.as_bytes(), "{id}");
     }
     assert_eq!(rt; vault.calls(), 1);
+    Ok(())
+}
+
+/// A wave of one channel of 16 bits: a square wave of 1 kHz, or silence at 0.
+fn square_wave(alloc: Global, frames: u16, high: i16) -> Result<Vec<u8>, Memory> {
+    let data = 2 * u32::from(frames);
+    let mut bytes = Vec::new(alloc);
+    bytes.extend_from_slice(b"RIFF".as_slice())?;
+    bytes.extend_from_slice((36 + data).to_le_bytes().as_slice())?;
+    bytes.extend_from_slice(
+        b"WAVEfmt \x10\0\0\0\x01\0\x01\0\x80\xbb\0\0\0\x77\x01\0\x02\0\x10\0data".as_slice(),
+    )?;
+    bytes.extend_from_slice(data.to_le_bytes().as_slice())?;
+    for frame in 0..frames {
+        let sample = if frame / 24 % 2 == 0 {
+            high
+        } else {
+            0i16.saturating_sub(high)
+        };
+        bytes.extend_from_slice(sample.to_le_bytes().as_slice())?;
+    }
+    Ok(bytes)
+}
+
+// The levels were computed from the definition by a script in whole numbers.
+#[test]
+fn a_wave_is_measured_whole(rt: HostRuntime) -> Result<(), Fail> {
+    let alloc = rt.alloc();
+    let mut keeper = MemKeeper::new(alloc, Tables::empty(alloc), Vec::new(alloc));
+    let mut vault = MemVault::new(alloc, Vec::new(alloc));
+    let mut library = Library::open(alloc, &mut keeper)?;
+    for (frames, high, body) in [
+        (
+            0,
+            0,
+            r#"{"channels":1,"depth":16,"frames":0,"gain":null,"id":1,"loudness":null,"momentary":null,"peak":"0.000000","range":null,"short":null,"true_peak":null}"#,
+        ),
+        (
+            19_199,
+            16_384,
+            r#"{"channels":1,"depth":16,"frames":19199,"gain":null,"id":2,"loudness":null,"momentary":null,"peak":"0.629334","range":null,"short":null,"true_peak":-402}"#,
+        ),
+        (
+            19_200,
+            16_384,
+            r#"{"channels":1,"depth":16,"frames":19200,"gain":-1280,"id":3,"loudness":-520,"momentary":-520,"peak":"0.629334","range":null,"short":null,"true_peak":-402}"#,
+        ),
+        (
+            19_200,
+            0,
+            r#"{"channels":1,"depth":16,"frames":19200,"gain":null,"id":4,"loudness":null,"momentary":null,"peak":"0.000000","range":null,"short":null,"true_peak":null}"#,
+        ),
+    ] {
+        let file = square_wave(alloc, frames, high)?;
+        let reply = import(&mut library, file.as_slice(), &mut keeper, &mut vault)?;
+        assert_eq!(rt; reply.status, 201, "{frames} frames");
+        assert_eq!(rt; reply.body.as_slice(), body.as_bytes(), "{frames} frames");
+    }
+    Ok(())
+}
+
+#[test]
+fn a_wave_at_96_khz_is_refused(rt: HostRuntime) -> Result<(), Fail> {
+    let alloc = rt.alloc();
+    let mut keeper = MemKeeper::new(alloc, Tables::empty(alloc), Vec::new(alloc));
+    let mut vault = MemVault::new(alloc, Vec::new(alloc));
+    let mut library = Library::open(alloc, &mut keeper)?;
+    let mut fast = FOUR;
+    fast[24] = 0;
+    fast[25] = 0x77;
+    fast[26] = 1;
+    let reply = import(&mut library, fast.as_slice(), &mut keeper, &mut vault)?;
+    assert_eq!(rt; reply.status, 422);
+    assert_eq!(rt;
+        reply.body.as_slice(),
+        br#"{"error":"format","place":24,"rule":"V10"}"#.as_slice()
+    );
     Ok(())
 }

@@ -3,6 +3,5 @@ pub mod Makes
 pub mod Readings
 pub mod Rows
 pub mod Samples
-pub mod Sizes
 pub mod Spellings
 pub mod Waves

@@ -7,7 +7,6 @@ use Rattle.lib_base.specs.Sounds.{IsSample}
 use Rattle.file_model.specs.Chunks.{Chunk, IsChunk}
 use Rattle.file_model.specs.Pcm.{Pcm}
 use Rattle.file_model.specs.Rules.{Breaks}
-use Rattle.file_model.specs.Sizes.{greatest_size, greatest_over}
 use Rattle.file_model.specs.Wave.{IsWave}
 
 -- ---- four samples in 52 bytes
@@ -88,12 +87,6 @@ four_frames_read = (
     };
   },
 )
-
-pub greatest_of_four : greatest_size four_samples ≡ 16384
-greatest_of_four = refl
-
-pub greatest_of_two_channels : greatest_over ((pos 0 ∷ negsuc 16383 ∷ []) ∷ (pos 16384 ∷ pos 1 ∷ []) ∷ []) ≡ 16384
-greatest_of_two_channels = refl
 
 -- ---- 24 bits, with an odd chunk before, and no pad byte at the end
 

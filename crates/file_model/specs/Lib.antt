@@ -5,5 +5,4 @@ pub mod Pcm
 pub mod Reading
 pub mod Rules
 pub mod Samples
-pub mod Sizes
 pub mod Wave

@@ -1,9 +1,9 @@
 -- A file is found to be one thing, with one summary.
-use Rattle.std.proofs.Common.{◌≡◌, ◌*◌, ◌^◌, ℕ, List, Option, refl, ap, ◌∙◌, sym, subst}
+use Rattle.std.proofs.Common.{◌≡◌, ◌^◌, ℕ, List, Option, refl, ap, ◌∙◌, sym, subst}
 use Rattle.std.specs.Prelude.{ℤ, option_map}
 use Rattle.lib_base.specs.declared.files.Summary.{Summary}
 use Rattle.file_model.specs.Pcm.{Pcm}
-use Rattle.file_model.specs.Reading.{Reading, Reads, accepted, broken}
+use Rattle.file_model.specs.Reading.{accepted, broken}
 use Rattle.file_model.proofs.Readings.{Reads_unique}
 use Rattle.sound_model.specs.Blocks.{blocks_of, windows_of}
 use Rattle.sound_model.specs.Levels.{hundredths}

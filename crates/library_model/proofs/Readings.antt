@@ -1,5 +1,5 @@
 -- Bytes are read in one way alone: what begins with a request begins with that one, whatever follows.
-use Rattle.std.proofs.Common.{◌≡◌, ℕ, ◌+◌, ◌<◌, ℤ, false, ◌||◌, nat_le, if◌then◌else◌, inl, inr, Some, List, [], ◌∷◌, ◌++◌, length, take, drop, codes, refl, sym, ap, ◌∙◌, subst, arith, append_assoc, length-append}
+use Rattle.std.proofs.Common.{◌≡◌, ℕ, ◌+◌, ◌<◌, false, ◌||◌, nat_le, if◌then◌else◌, inl, inr, Some, List, [], ◌∷◌, ◌++◌, length, take, drop, codes, refl, sym, ap, ◌∙◌, subst, arith, append_assoc, length-append}
 use Rattle.std.proofs.Math.Seq.{take-append_seam, drop-append_seam}
 use Rattle.httparse.specs.Grammar.{RequestHead, ReadsRequest, print_request, print_blank, print_version, print_end, print_section}
 use Rattle.httparse.proofs.GrammarLemmas.{request_unique, ReadsRequest-append}
@@ -179,4 +179,3 @@ import_granted s file sound summary request verdict is finds left decides =
     let granted = command.2 ∙ ap (import_verdict s file) (Finds_unique file command.0 (measured sound summary) command.1 finds)
     ∙ ap (λ b. if b then stays ids_refusal else accepts (recording_reply 201 (new_recording s file sound summary)) (imported s file sound summary)) left in
     ap (λ (v : Verdict). (verdict_reply v).status) granted
-

@@ -66,16 +66,19 @@ row_recording = record { id = 1; take = 1; file = four_frames 1; sound = row_sou
 -- The file is found to be that sound, with those levels.
 pub row_file-Finds : Finds row_recording.file (measured row_recording.sound row_recording.summary)
 unfolding scaled
-row_file-Finds = (four_frames_read, record {
-  frames_kept = refl;
-  loudness = tt;
-  range = tt;
-  momentary = tt;
-  short_term = tt;
-  true_peak = record { level = negsuc 1079; of_ratio = row_level; rounded = row_rounded };
-  peak_kept = refl;
-  gain = refl;
-})
+row_file-Finds = (
+  four_frames_read,
+  record {
+    frames_kept = refl;
+    loudness = tt;
+    range = tt;
+    momentary = tt;
+    short_term = tt;
+    true_peak = record { level = negsuc 1079; of_ratio = row_level; rounded = row_rounded };
+    peak_kept = refl;
+    gain = refl;
+  },
+)
 
 -- The MD5 of the file.
 pub recording_row-digest : (recording_row row_recording).digest

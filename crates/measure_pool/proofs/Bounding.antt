@@ -1,7 +1,7 @@
 -- How great weighted values and energies are.
-use Rattle.std.proofs.Common.{◌≡◌, ◌≤◌, ◌<◌, ◌+◌, ◌-◌, ◌*◌, ◌^◌, ℕ, zero, suc, List, [], ◌∷◌, map, reverse, take, drop, length, get_or, sum, max, min, length-take, refl, ap, ◌∙◌, sym, subst, inl, inr, arith}
-use Rattle.std.specs.Prelude.{ℤ, pos, ◌+ℤ◌, ◌≤ℤ◌, ◌<ℤ◌, unsigned_abs, All, sum_by}
-use Rattle.std.specs.Int.{int_min, int_max, int_div_euclid}
+use Rattle.std.proofs.Common.{◌≡◌, ◌≤◌, ◌<◌, ◌-◌, ◌*◌, ◌^◌, ℕ, suc, List, [], ◌∷◌, map, reverse, drop, length, get_or, sum, length-take, refl, ap, ◌∙◌, sym, subst, arith}
+use Rattle.std.specs.Prelude.{ℤ, pos, ◌+ℤ◌, unsigned_abs, All}
+use Rattle.std.specs.Int.{int_div_euclid}
 use Rattle.std.proofs.lemmas.Int.{ints}
 use Rattle.std.proofs.lemmas.Nat.{mul-le}
 use Rattle.std.proofs.lemmas.List.{get_or-reverse, length-reverse, length-map}
@@ -9,7 +9,7 @@ use Rattle.std.proofs.lemmas.List.Elements.{All-map, All-nil, All-cons, All-get_
 use Rattle.std.proofs.lemmas.List.Sums.{sum_by-le, sum_by-cons}
 use Rattle.lib_base.specs.Sounds.{part}
 use Rattle.sound_model.specs.Weighted.{Section, held, leaving, weighted, outputs, shelf, high_pass, entering}
-use Rattle.sound_model.specs.Segments.{square, segment_energy, energy_over, weights, greatest_energy}
+use Rattle.sound_model.specs.Segments.{square, segment_energy, energy_over}
 
 held_within : (limit : ℕ) (z : ℤ) → unsigned_abs (held limit z) ≤ limit
 held_within limit z = grind (arith, ints)

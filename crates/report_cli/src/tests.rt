@@ -25,13 +25,13 @@ const TWO_CHANNELS: &[u8] =
     b"POST /recordings HTTP/1.1\r\nHost: a\r\nContent-Length: 52\r\n\r\nRIFF,\0\0\0WAVEfmt \x10\0\0\0\x01\0\x02\0\x80\xbb\0\0\0\x77\x01\0\x02\0\x10\0data\x08\0\0\0\0\0\0\x40\0\xc0\x01\0";
 
 const FIRST: &[u8] =
-    b"HTTP/1.1 201 Created\r\nContent-Type: application/json\r\nContent-Length: 67\r\n\r\n{\"frames\":4,\"gain\":null,\"id\":1,\"loudness\":null,\"sample_peak\":16384}";
+    b"HTTP/1.1 201 Created\r\nContent-Type: application/json\r\nContent-Length: 149\r\n\r\n{\"channels\":1,\"depth\":16,\"frames\":4,\"gain\":null,\"id\":1,\"loudness\":null,\"momentary\":null,\"peak\":\"0.537233\",\"range\":null,\"short\":null,\"true_peak\":-540}";
 
 const SECOND: &[u8] =
-    b"HTTP/1.1 201 Created\r\nContent-Type: application/json\r\nContent-Length: 67\r\n\r\n{\"frames\":4,\"gain\":null,\"id\":2,\"loudness\":null,\"sample_peak\":16384}";
+    b"HTTP/1.1 201 Created\r\nContent-Type: application/json\r\nContent-Length: 149\r\n\r\n{\"channels\":1,\"depth\":16,\"frames\":4,\"gain\":null,\"id\":2,\"loudness\":null,\"momentary\":null,\"peak\":\"0.537233\",\"range\":null,\"short\":null,\"true_peak\":-540}";
 
 const BROKEN: &[u8] =
-    b"HTTP/1.1 422 Unprocessable Content\r\nContent-Type: application/json\r\nContent-Length: 40\r\n\r\n{\"error\":\"format\",\"place\":0,\"rule\":\"K0\"}";
+    b"HTTP/1.1 422 Unprocessable Content\r\nContent-Type: application/json\r\nContent-Length: 42\r\n\r\n{\"error\":\"format\",\"place\":32,\"rule\":\"V12\"}";
 
 const FRAME: &[u8] =
     b"HTTP/1.1 400 Bad Request\r\nContent-Type: application/json\r\nContent-Length: 17\r\nConnection: close\r\n\r\n{\"error\":\"frame\"}";
@@ -56,7 +56,7 @@ const ASK_FIRST: &[u8] = b"GET /recordings/1 HTTP/1.1\r\nHost: a\r\n\r\n";
 const ASK_NINTH: &[u8] = b"GET /recordings/9 HTTP/1.1\r\nHost: a\r\n\r\n";
 
 const FOUND: &[u8] =
-    b"HTTP/1.1 200 OK\r\nContent-Type: application/json\r\nContent-Length: 67\r\n\r\n{\"frames\":4,\"gain\":null,\"id\":1,\"loudness\":null,\"sample_peak\":16384}";
+    b"HTTP/1.1 200 OK\r\nContent-Type: application/json\r\nContent-Length: 149\r\n\r\n{\"channels\":1,\"depth\":16,\"frames\":4,\"gain\":null,\"id\":1,\"loudness\":null,\"momentary\":null,\"peak\":\"0.537233\",\"range\":null,\"short\":null,\"true_peak\":-540}";
 
 const MISSING: &[u8] =
     b"HTTP/1.1 404 Not Found\r\nContent-Type: application/json\r\nContent-Length: 24\r\n\r\n{\"error\":\"no-recording\"}";
@@ -224,10 +224,10 @@ const SILENT_HEAD: &[u8] =
 const LOUD_HEAD: &[u8] =
     b"POST /recordings HTTP/1.1\r\nContent-Length: 76844\r\n\r\nRIFF\x24\x2c\x01\0WAVEfmt \x10\0\0\0\x01\0\x02\0\x80\xbb\0\0\0\xee\x02\0\x04\0\x10\0data\0\x2c\x01\0";
 
-/// What is answered to both. The loudness was computed from the definition by a script in whole
-/// numbers: the left channel alone would have -520, the right one alone -1210.
+/// What is answered to both. The levels were computed from the definition by a script in whole
+/// numbers: the left channel alone would have the loudness -520, the right one alone -1210.
 const MEASURED: &[u8] =
-    b"HTTP/1.1 201 Created\r\nContent-Type: application/json\r\nContent-Length: 67\r\n\r\n{\"frames\":19200,\"gain\":null,\"id\":1,\"loudness\":null,\"sample_peak\":0}HTTP/1.1 201 Created\r\nContent-Type: application/json\r\nContent-Length: 72\r\n\r\n{\"frames\":19200,\"gain\":-1361,\"id\":2,\"loudness\":-439,\"sample_peak\":16384}";
+    b"HTTP/1.1 201 Created\r\nContent-Type: application/json\r\nContent-Length: 153\r\n\r\n{\"channels\":1,\"depth\":16,\"frames\":19200,\"gain\":null,\"id\":1,\"loudness\":null,\"momentary\":null,\"peak\":\"0.000000\",\"range\":null,\"short\":null,\"true_peak\":null}HTTP/1.1 201 Created\r\nContent-Type: application/json\r\nContent-Length: 154\r\n\r\n{\"channels\":2,\"depth\":16,\"frames\":19200,\"gain\":-1361,\"id\":2,\"loudness\":-439,\"momentary\":-439,\"peak\":\"0.629334\",\"range\":null,\"short\":null,\"true_peak\":-402}";
 
 /// A sample of a square wave that changes every `half` frames.
 fn square(high: i16, low: i16, half: usize, frame: usize) -> i16
@@ -436,10 +436,10 @@ fn keeps_what_was_imported(rt: HostRuntime) -> Result<(), Fail> {
     for row in tables.recordings.as_slice() {
         rows.push((row.id, row.take, row.summary.frames, row.summary.peak))?;
     }
-    // The peak is in units of 2^-36 of full scale, and 16384 is half of it.
+    // The peak is in units of 2^-36 of full scale: between the samples it is 0.537 of it.
     assert_eq!(rt;
         rows.as_slice(),
-        [(1, 1, 4, 34_359_738_368), (2, 2, 4, 34_359_738_368)].as_slice()
+        [(1, 1, 4, 36_918_363_648), (2, 2, 4, 36_918_363_648)].as_slice()
     );
     for (key, held) in [(0, false), (1, true), (2, true), (3, false)] {
         match got.vault.get(key)? {

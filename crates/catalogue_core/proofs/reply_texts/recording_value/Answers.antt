@@ -1,9 +1,9 @@
 use Rattle.std.proofs.Common.{rules, ◌≡◌, codes, ap}
-use Rattle.serde_json.specs.View.{view, members_view}
-use Rattle.serde_json.specs.Data.{Data, Members, number, unsigned, string, object, member, no_members}
+use Rattle.serde_json.specs.View.{members_view}
+use Rattle.serde_json.specs.Data.{number, unsigned, string, object, member, no_members}
 use Rattle.serde_json.proofs.Views.{view-Object}
 use Rattle.serde_json.proofs.OnLiterals.{serde_json_on_literals}
-use Rattle.catalogue_core.specs.Objects.{level_data, recording_object}
+use Rattle.catalogue_core.specs.Objects.{level_data}
 use Rattle.catalogue_core.proofs.Texts.{level_viewed}
 use Rattle.catalogue_core.proofs.reply_texts.recording_value.Goals as goal
 

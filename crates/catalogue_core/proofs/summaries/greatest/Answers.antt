@@ -1,6 +1,5 @@
-use Rattle.std.proofs.Common.{◌≡◌, ◌≤◌, ap, ◌∙◌, length, arith}
+use Rattle.std.proofs.Common.{◌≤◌, length, arith}
 use Rattle.std.proofs.lemmas.List.{take_all}
-use Rattle.sound_model.specs.Loudness.{greatest}
 use Rattle.catalogue_core.proofs.Greatest.{greatest-step, greatest-within}
 use Rattle.catalogue_core.proofs.summaries.greatest.Goals as goal
 

@@ -1,4 +1,4 @@
-use Rattle.std.proofs.Common.{◌≤◌, ◌*◌}
+use Rattle.std.proofs.Common.{◌*◌}
 use Rattle.sound_model.specs.Segments.{greatest_energy}
 use Rattle.catalogue_core.proofs.summaries.summarise.Goals as goal
 

@@ -1,4 +1,4 @@
-use Rattle.std.proofs.Common.{◌-◌, ◌≡◌, ◌≤◌, ◌<◌, length, take}
+use Rattle.std.proofs.Common.{◌-◌, ◌≡◌, ◌≤◌, length, take}
 use Rattle.lib_base.specs.Sounds.{samples_of}
 use Rattle.measure_pool.specs.Lines.{IsFed, fed_count, room_of}
 use Rattle.measure_pool.proofs.segments.feed_channel.Given as goal

@@ -1,4 +1,4 @@
-use Rattle.std.proofs.Common.{◌≡◌, ◌++◌, List, subst, sym}
+use Rattle.std.proofs.Common.{List, subst, sym}
 use Rattle.std.specs.Prelude.{ℤ}
 use Rattle.gate_blocks.specs.Meters.{WasFed}
 use Rattle.sound_model.specs.Weighted.{weighted}
