@@ -4,7 +4,7 @@ use Rattle.keeper_store.specs.declared.row_types.RecordingRow.{RecordingRow}
 use Rattle.library_model.specs.declared.messages.Reply.{Reply}
 use Rattle.library_model.specs.Replies.{json, recording_text, no_recording_refusal}
 
--- what is replied about the row that was looked for: the size of its greatest sample is its peak by 2^21
+-- what is replied about the row that was looked for
 abbrev pub row_reply : Option RecordingRow → Reply
 row_reply (Some row) = json 200 (recording_text row.id row.channels row.depth row.summary)
 row_reply None = no_recording_refusal

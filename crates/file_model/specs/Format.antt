@@ -4,12 +4,15 @@ use Rattle.std.specs.Prelude.{◌≡◌, ◌≢◌, ◌⊎◌, ◌*◌, ◌/◌,
 use Rattle.lib_base.specs.Sounds.{part}
 use Rattle.file_model.specs.Chunks.{short_at, number_at}
 
+-- the form of the samples
 abbrev pub tag_of : List ℕ → ℕ
 tag_of content = short_at content 0
 
+-- how many channels
 abbrev pub channels_of : List ℕ → ℕ
 channels_of content = short_at content 2
 
+-- how many frames a second
 abbrev pub rate_of : List ℕ → ℕ
 rate_of content = number_at content 4
 
@@ -17,6 +20,7 @@ rate_of content = number_at content 4
 abbrev pub align_of : List ℕ → ℕ
 align_of content = short_at content 12
 
+-- how many bits a sample
 abbrev pub depth_of : List ℕ → ℕ
 depth_of content = short_at content 14
 
@@ -52,14 +56,18 @@ IsOtherFormat content =
     ((tag_of content ≢ pcm_tag) × (tag_of content ≢ extensible_tag))
     ⊎ ((tag_of content ≡ extensible_tag) × (part content 24 16 ≢ pcm_subformat))
 
+-- it names no channel, or more than six
 abbrev pub HasOtherChannels : List ℕ → Type 0
 HasOtherChannels content = (channels_of content < 1) ⊎ (6 < channels_of content)
 
+-- it names another rate than 48,000 Hz
 abbrev pub HasOtherRate : List ℕ → Type 0
 HasOtherRate content = rate_of content ≢ 48000
 
+-- it names another depth than 16 or 24 bits
 abbrev pub HasOtherDepth : List ℕ → Type 0
 HasOtherDepth content = (depth_of content ≢ 16) × (depth_of content ≢ 24)
 
+-- its frames take another number of bytes than their samples
 abbrev pub HasOtherAlign : List ℕ → Type 0
 HasOtherAlign content = align_of content ≢ channels_of content * depth_of content / 8

@@ -10,9 +10,10 @@ pub record IsFed (line : Line) (depth : ℕ) (fed : List ℤ) : Type 0 where
   pub filter : filter.WasFed line.filter depth fed
   pub meter : meter.WasFed line.meter (weighted depth fed)
 
--- how many samples the line was fed, and how many it has room for
+-- how many samples the line was fed
 abbrev pub fed_count : Line → ℕ
 fed_count line = line.meter.count
 
+-- how many samples the line has room for
 abbrev pub room_of : Line → ℕ
 room_of line = line.meter.frames

@@ -12,6 +12,7 @@ use Rattle.wave_chunks.specs.declared.chunks.Chunk.{Chunk as Stored}
 abbrev pub span_from : ℕ → ℕ → Span
 span_from head count = record { start = head + 8; end = head + 8 + count }
 
+-- where a chunk's content lies
 abbrev pub span_of : Placed → Span
 span_of placed = span_from placed.head (length placed.content)
 
