@@ -74,8 +74,16 @@ fn imports_are_answered_in_turn(rt: HostRuntime) -> Result<(), Fail> {
         (&stereo, 422, r#"{"error":"format","place":0,"rule":"K0"}"#),
         (&FOUR, 502, r#"{"error":"vault"}"#),
         (&FOUR, 504, r#"{"error":"keeper"}"#),
-        (&FOUR, 201, r#"{"frames":4,"gain":null,"id":1,"loudness":null,"sample_peak":16384}"#),
-        (&FOUR, 201, r#"{"frames":4,"gain":null,"id":2,"loudness":null,"sample_peak":16384}"#),
+        (
+            &FOUR,
+            201,
+            r#"{"frames":4,"gain":null,"id":1,"loudness":null,"sample_peak":16384}"#,
+        ),
+        (
+            &FOUR,
+            201,
+            r#"{"frames":4,"gain":null,"id":2,"loudness":null,"sample_peak":16384}"#,
+        ),
     ] {
         let reply = import(&mut library, file.as_slice(), &mut keeper, &mut vault)?;
         assert_eq!(rt; reply.status, status, "{body}");
@@ -121,7 +129,11 @@ fn a_question_is_answered_from_the_rows(rt: HostRuntime) -> Result<(), Fail> {
     let mut library = Library::open(alloc, &mut keeper)?;
     import(&mut library, FOUR.as_slice(), &mut keeper, &mut vault)?;
     for (id, status, body) in [
-        (1, 200, r#"{"frames":4,"gain":null,"id":1,"loudness":null,"sample_peak":16384}"#),
+        (
+            1,
+            200,
+            r#"{"frames":4,"gain":null,"id":1,"loudness":null,"sample_peak":16384}"#,
+        ),
         (2, 404, r#"{"error":"no-recording"}"#),
     ] {
         let reply = ask(&library, &Question::Recording(id), &mut vault)?;

@@ -179,4 +179,3 @@ import_granted s file sound summary request verdict is finds left decides =
     let granted = command.2 ∙ ap (import_verdict s file) (Finds_unique file command.0 (measured sound summary) command.1 finds)
     ∙ ap (λ b. if b then stays ids_refusal else accepts (recording_reply 201 (new_recording s file sound summary)) (imported s file sound summary)) left in
     ap (λ (v : Verdict). (verdict_reply v).status) granted
-

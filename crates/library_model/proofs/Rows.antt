@@ -48,16 +48,19 @@ row_recording = record { id = 1; take = 1; file = four_frames 1; sound = row_sou
 
 -- The file is found to be that sound, with those levels.
 pub row_file-Finds : Finds row_recording.file (measured row_recording.sound row_recording.summary)
-row_file-Finds = (four_frames_read, record {
-  counted = refl;
-  loudness = tt;
-  gain = refl;
-  size = refl;
-  no_range = refl;
-  no_momentary = refl;
-  no_short_term = refl;
-  no_true_peak = refl;
-})
+row_file-Finds = (
+  four_frames_read,
+  record {
+    counted = refl;
+    loudness = tt;
+    gain = refl;
+    size = refl;
+    no_range = refl;
+    no_momentary = refl;
+    no_short_term = refl;
+    no_true_peak = refl;
+  },
+)
 
 -- The MD5 of the file.
 pub recording_row-digest : (recording_row row_recording).digest
