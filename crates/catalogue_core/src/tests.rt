@@ -13,7 +13,11 @@ use std::test::Fail;
 const FOUR: [u8; 52] =
     *b"RIFF\x2c\0\0\0WAVEfmt \x10\0\0\0\x01\0\x01\0\x80\xbb\0\0\0\x77\x01\0\x02\0\x10\0data\x08\0\0\0\0\0\0\x40\0\xc0\x01\0";
 
-/// The MD5 of that wave.
+/// A wave of 46 bytes whose data are said to be four, of which two are there.
+const CUT: [u8; 46] =
+    *b"RIFF\x26\0\0\0WAVEfmt \x10\0\0\0\x01\0\x01\0\x80\xbb\0\0\0\x77\x01\0\x02\0\x10\0data\x04\0\0\0\0\0";
+
+/// The MD5 of the first wave.
 const FOUR_DIGEST: [u8; 16] = *b"\xe2\x2a\x65\x56\xf8\x8f\x1d\x04\xb7\x32\x72\x35\xac\x86\xad\x47";
 
 /// Asks for the import of a file, and answers its reply.
@@ -73,24 +77,44 @@ fn imports_are_answered_in_turn(rt: HostRuntime) -> Result<(), Fail> {
     let mut library = Library::open(alloc, &mut keeper)?;
     for (file, status, body) in [
         (
-            &stereo,
+            b"".as_slice(),
+            422,
+            r#"{"error":"format","place":0,"rule":"V1"}"#,
+        ),
+        (
+            b"PK\x03\x04".as_slice(),
+            422,
+            r#"{"error":"format","place":0,"rule":"V1"}"#,
+        ),
+        (
+            b"fLaC\0\0\0\x22".as_slice(),
+            422,
+            r#"{"error":"format","place":0,"rule":"V1"}"#,
+        ),
+        (
+            CUT.as_slice(),
+            422,
+            r#"{"error":"format","place":36,"rule":"V4"}"#,
+        ),
+        (
+            stereo.as_slice(),
             422,
             r#"{"error":"format","place":32,"rule":"V12"}"#,
         ),
-        (&FOUR, 502, r#"{"error":"vault"}"#),
-        (&FOUR, 504, r#"{"error":"keeper"}"#),
+        (FOUR.as_slice(), 502, r#"{"error":"vault"}"#),
+        (FOUR.as_slice(), 504, r#"{"error":"keeper"}"#),
         (
-            &FOUR,
+            FOUR.as_slice(),
             201,
             r#"{"channels":1,"depth":16,"frames":4,"gain":null,"id":1,"loudness":null,"momentary":null,"peak":"0.537233","range":null,"short":null,"true_peak":-540}"#,
         ),
         (
-            &FOUR,
+            FOUR.as_slice(),
             201,
             r#"{"channels":1,"depth":16,"frames":4,"gain":null,"id":2,"loudness":null,"momentary":null,"peak":"0.537233","range":null,"short":null,"true_peak":-540}"#,
         ),
     ] {
-        let reply = import(&mut library, file.as_slice(), &mut keeper, &mut vault)?;
+        let reply = import(&mut library, file, &mut keeper, &mut vault)?;
         assert_eq!(rt; reply.status, status, "{body}");
         assert_eq!(rt; reply.body.as_slice(), body.as_bytes());
     }
@@ -149,25 +173,61 @@ fn a_question_is_answered_from_the_rows(rt: HostRuntime) -> Result<(), Fail> {
     Ok(())
 }
 
-/// A wave of one channel of 16 bits: a square wave of 1 kHz, or silence at 0.
-fn square_wave(alloc: Global, frames: u16, high: i16) -> Result<Vec<u8>, Memory> {
-    let data = 2 * u32::from(frames);
+/// A wave file of 16 bits that holds these samples, frame by frame.
+fn wave_of(alloc: Global, channels: u16, samples: &[i16]) -> Result<Vec<u8>, Memory> {
+    let data = u32::try_from(samples.len()).unwrap_or(0).wrapping_mul(2);
     let mut bytes = Vec::new(alloc);
     bytes.extend_from_slice(b"RIFF".as_slice())?;
-    bytes.extend_from_slice((36 + data).to_le_bytes().as_slice())?;
-    bytes.extend_from_slice(
-        b"WAVEfmt \x10\0\0\0\x01\0\x01\0\x80\xbb\0\0\0\x77\x01\0\x02\0\x10\0data".as_slice(),
-    )?;
+    bytes.extend_from_slice(data.wrapping_add(36).to_le_bytes().as_slice())?;
+    bytes.extend_from_slice(b"WAVEfmt \x10\0\0\0\x01\0".as_slice())?;
+    bytes.extend_from_slice(channels.to_le_bytes().as_slice())?;
+    bytes.extend_from_slice(b"\x80\xbb\0\0\0\0\0\0".as_slice())?;
+    bytes.extend_from_slice(channels.wrapping_mul(2).to_le_bytes().as_slice())?;
+    bytes.extend_from_slice(b"\x10\0data".as_slice())?;
     bytes.extend_from_slice(data.to_le_bytes().as_slice())?;
-    for frame in 0..frames {
-        let sample = if frame / 24 % 2 == 0 {
-            high
-        } else {
-            0i16.saturating_sub(high)
-        };
+    for sample in samples {
         bytes.extend_from_slice(sample.to_le_bytes().as_slice())?;
     }
     Ok(bytes)
+}
+
+fn silence(alloc: Global, count: usize) -> Result<Vec<i16>, Memory> {
+    let mut samples = Vec::new(alloc);
+    samples.resize(count, 0)?;
+    Ok(samples)
+}
+
+/// A square wave of 1 kHz at this size, and at the other from a frame on.
+fn square_wave(
+    alloc: Global,
+    frames: usize,
+    size: i16,
+    from: usize,
+    other: i16,
+) -> Result<Vec<i16>, Memory> {
+    let mut samples = Vec::new(alloc);
+    for frame in 0..frames {
+        let high = if frame < from { size } else { other };
+        samples.push(if frame / 24 % 2 == 0 {
+            high
+        } else {
+            0i16.saturating_sub(high)
+        })?;
+    }
+    Ok(samples)
+}
+
+/// Half a second of silence but for the samples of 16384 from the middle to before a place.
+fn impulse(alloc: Global, until: usize) -> Result<Vec<i16>, Memory> {
+    let mut samples = Vec::new(alloc);
+    for frame in 0..24_000 {
+        samples.push(if frame < 12_000 || until <= frame {
+            0
+        } else {
+            16_384
+        })?;
+    }
+    Ok(samples)
 }
 
 // The levels were computed from the definition by a script in whole numbers.
@@ -199,7 +259,8 @@ fn a_wave_is_measured_whole(rt: HostRuntime) -> Result<(), Fail> {
             r#"{"channels":1,"depth":16,"frames":19200,"gain":null,"id":4,"loudness":null,"momentary":null,"peak":"0.000000","range":null,"short":null,"true_peak":null}"#,
         ),
     ] {
-        let file = square_wave(alloc, frames, high)?;
+        let samples = square_wave(alloc, frames, high, frames, high)?;
+        let file = wave_of(alloc, 1, samples.as_slice())?;
         let reply = import(&mut library, file.as_slice(), &mut keeper, &mut vault)?;
         assert_eq!(rt; reply.status, 201, "{frames} frames");
         assert_eq!(rt; reply.body.as_slice(), body.as_bytes(), "{frames} frames");
@@ -223,5 +284,53 @@ fn a_wave_at_96_khz_is_refused(rt: HostRuntime) -> Result<(), Fail> {
         reply.body.as_slice(),
         br#"{"error":"format","place":24,"rule":"V10"}"#.as_slice()
     );
+    Ok(())
+}
+
+// One sample alone, two neighbours, a tone that falls by 12 dB, and five seconds of silence on two
+// channels.
+#[test]
+fn longer_waves_are_measured_whole(rt: HostRuntime) -> Result<(), Fail> {
+    let alloc = rt.alloc();
+    let mut keeper = MemKeeper::new(alloc, Tables::empty(alloc), Vec::new(alloc));
+    let mut vault = MemVault::new(alloc, Vec::new(alloc));
+    let mut library = Library::open(alloc, &mut keeper)?;
+    let one = wave_of(alloc, 1, impulse(alloc, 12_001)?.as_slice())?;
+    let two = wave_of(alloc, 1, impulse(alloc, 12_002)?.as_slice())?;
+    let tone = square_wave(alloc, 192_000, 16_384, 96_000, 4_096)?;
+    let falling = wave_of(alloc, 1, tone.as_slice())?;
+    let silent = wave_of(alloc, 2, silence(alloc, 480_000)?.as_slice())?;
+    for (file, body) in [
+        (
+            &one,
+            r#"{"channels":1,"depth":16,"frames":24000,"gain":2772,"id":1,"loudness":-4572,"momentary":-4572,"peak":"0.500000","range":null,"short":null,"true_peak":-602}"#,
+        ),
+        (
+            &two,
+            r#"{"channels":1,"depth":16,"frames":24000,"gain":2493,"id":2,"loudness":-4293,"momentary":-4293,"peak":"0.622437","range":null,"short":null,"true_peak":-412}"#,
+        ),
+        (
+            &falling,
+            r#"{"channels":1,"depth":16,"frames":192000,"gain":-1006,"id":3,"loudness":-794,"momentary":-520,"peak":"0.629334","range":228,"short":-682,"true_peak":-402}"#,
+        ),
+        (
+            &silent,
+            r#"{"channels":2,"depth":16,"frames":240000,"gain":null,"id":4,"loudness":null,"momentary":null,"peak":"0.000000","range":null,"short":null,"true_peak":null}"#,
+        ),
+    ] {
+        let reply = import(&mut library, file.as_slice(), &mut keeper, &mut vault)?;
+        assert_eq!(rt; reply.status, 201, "{body}");
+        assert_eq!(rt; reply.body.as_slice(), body.as_bytes());
+    }
+    let tables = keeper.load()?;
+    let rows = tables.recordings.as_slice();
+    assert_eq!(rt; rows.len(), 4);
+    assert_eq!(rt; (rows[0].channels, rows[3].channels), (1, 2));
+    let segments = tables.segments.as_slice();
+    assert_eq!(rt; segments.len(), 4);
+    // Eleven bytes for each of 5, 5, 40 and 50 segments.
+    for (segment, length) in segments.iter().zip([55, 55, 440, 550]) {
+        assert_eq!(rt; segment.energies.as_slice().len(), length);
+    }
     Ok(())
 }
