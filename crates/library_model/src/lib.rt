@@ -6,5 +6,7 @@
 #![tactic(auto)]
 
 mod messages;
+mod refusals;
 
 pub use messages::{BodyKind, Command, Question, Reply, Request};
+pub use refusals::Refusal;
