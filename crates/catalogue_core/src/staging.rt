@@ -15,7 +15,7 @@ use crate::reply_texts::{refuse, refuse_format};
 use crate::{Library, Staged};
 use keeper_store::Vault;
 use lib_base::{Bytes, Memory, Outside};
-use library_model::{Command, Request};
+use library_model::{Command, Refusal, Request};
 
 /// The number from which on none is given to a recording or a take.
 const NUMBERS_END: u32 = 2_147_483_647;
@@ -32,7 +32,8 @@ pub fn stage<V: Vault>(
     ensures fits { IfReady result (Fits library.new) }
     ensures kept { kept_tables library.new ≡ kept_tables library.old }
 
-    // The vault changes under the next take alone, which holds the file of what is ready, and not at a refusal other than 502.
+    // The vault changes under the next take alone, which holds the file of what is ready, and not at
+    // a refusal other than `Vault`.
     ensures others { Goes (OthersKept (kept_tables library.old).next_take) (V.blobs vault.old) (V.blobs vault.new) }
     ensures file { IfReady result (λ _. Goes (λ _ new. HoldsFileOf request.command (kept_tables library.old).next_take new)
         (V.blobs vault.old) (V.blobs vault.new)) }
@@ -88,13 +89,12 @@ fn stage_accepted<V: Vault>(
 {
     let alloc = library.alloc;
     if has_no_number(library) {
-        return Ok(Staged::Refused(refuse(alloc, 409, "ids")?));
+        return Ok(Staged::Refused(refuse(alloc, Refusal::Ids)?));
     }
     let ready = prepare_import(library, file, measure)?;
-    let vault_refusal = refuse(alloc, 502, "vault")?;
     match vault.put(library.next_take, file) {
         Ok(()) => Ok(Staged::Ready(ready)),
-        Err(Outside::Failed) => Ok(Staged::Refused(vault_refusal)),
+        Err(Outside::Failed) => Ok(Staged::Refused(refuse(alloc, Refusal::Vault)?)),
         Err(Outside::Memory) => Err(Memory),
     }
 }

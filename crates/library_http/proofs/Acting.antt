@@ -12,9 +12,11 @@ use Rattle.library_model.specs.declared.messages.Reply.{Reply}
 use Rattle.library_model.specs.declared.messages.Request.{Request}
 use Rattle.library_model.specs.declared.messages.Question.{Question}
 use Rattle.library_model.specs.declared.messages.Question.TheVariants as about
+use Rattle.library_model.specs.declared.refusals.Refusal.TheVariants as cause
 use Rattle.library_model.specs.Asked.{Asked, IsQuestion, change, question}
 use Rattle.library_model.specs.Machine.{Answer, AnswersBy, Way, accepts, stays, as_decided, without_memory, vault_failed, keeper_failed, count_status, question_reply, found_reply, recording_of}
-use Rattle.library_model.specs.Replies.{memory_refusal}
+use Rattle.library_model.specs.Refusals.{status_of}
+use Rattle.library_model.specs.Replies.{refusal}
 use Rattle.library_model.specs.Stands.{tables_of}
 use Rattle.library_model.specs.State.{Recording, State}
 use Rattle.library_model.proofs.Imports.{HoldsFiles-kept}
@@ -59,12 +61,12 @@ RoseBy-none many before now none later = omega arith
 RoseBy-one : (many before now : ℕ) → many ≡ 1 → RoseBy 1 before now → RoseBy many before now
 RoseBy-one many before now one rose = omega arith
 
--- a reply that is neither 502 nor 504 asks for no fault
-Counts-neither : (reply : Reply) (w0 w1 : World) → reply.status ≢ 502 → reply.status ≢ 504 → w0.vault_faults ≤ w1.vault_faults
+-- a reply that is neither `Vault` nor `Keeper` asks for no fault
+Counts-neither : (reply : Reply) (w0 w1 : World) → reply.status ≢ status_of cause.Vault → reply.status ≢ status_of cause.Keeper → w0.vault_faults ≤ w1.vault_faults
     → w0.keeper_faults ≤ w1.keeper_faults → Counts (reply ∷ []) w0 w1
 Counts-neither reply w0 w1 vault keeper vault_later keeper_later = record {
-  vault = RoseBy-none _ _ _ (count_status-other reply 502 vault) vault_later;
-  keeper = RoseBy-none _ _ _ (count_status-other reply 504 keeper) keeper_later;
+  vault = RoseBy-none _ _ _ (count_status-other reply (status_of cause.Vault) vault) vault_later;
+  keeper = RoseBy-none _ _ _ (count_status-other reply (status_of cause.Keeper) keeper) keeper_later;
 }
 
 -- without a fault that was counted, an answer is the one that is decided, or memory was wanting
@@ -77,12 +79,12 @@ settled_without_faults s request reply next w0 w1 answer counts vault keeper = b
     by_way (as_decided verdict) answers = inl (verdict, answers)
     by_way without_memory answers = inr answers
     by_way (vault_failed verdict) answers =
-        let counted : count_status 502 (reply ∷ []) ≡ 1 =
-        count_status-same reply 502 (ap (λ (r : Reply). r.status) answers.2) in
+        let counted : count_status (status_of cause.Vault) (reply ∷ []) ≡ 1 =
+        count_status-same reply (status_of cause.Vault) (ap (λ (r : Reply). r.status) answers.2) in
         absurd (vault (subst (λ (n : ℕ). RoseBy n w0.vault_faults w1.vault_faults) counted counts.vault))
     by_way (keeper_failed verdict) answers =
-        let counted : count_status 504 (reply ∷ []) ≡ 1 =
-        count_status-same reply 504 (ap (λ (r : Reply). r.status) answers.2) in
+        let counted : count_status (status_of cause.Keeper) (reply ∷ []) ≡ 1 =
+        count_status-same reply (status_of cause.Keeper) (ap (λ (r : Reply). r.status) answers.2) in
         absurd (keeper (subst (λ (n : ℕ). RoseBy n w0.keeper_faults w1.keeper_faults) counted counts.keeper))
 
 -- an answer acts that leads the library so, with its faults counted, and the vault changed under the next take alone
@@ -132,12 +134,12 @@ pub Acts-memory : (s : State) (request : Request) (lib0 lib1 : Library) (tables 
     (kf vf0 vf1 vc0 vc1 : ℕ) → Keeps lib0 s → kept_tables lib1 ≡ kept_tables lib0 → vf0 ≤ vf1
     → Goes (OthersKept (kept_tables lib0).next_take) blobs0 blobs1
     → Goes (λ old new. old ≡ kept_tables lib0 → new ≡ kept_tables lib1) tables tables
-    → Acts s (change request) memory_refusal (world lib0 tables blobs0 kf vf0 vc0) (world lib1 tables blobs1 kf vf1 vc1)
+    → Acts s (change request) (refusal cause.Memory) (world lib0 tables blobs0 kf vf0 vc0) (world lib1 tables blobs1 kf vf1 vc1)
 Acts-memory s request lib0 lib1 tables blobs0 blobs1 kf vf0 vf1 vc0 vc1 keeps same later others went =
-    Acts-of s (change request) memory_refusal s _ _
+    Acts-of s (change request) (refusal cause.Memory) s _ _
     (record { way = without_memory; answers = (refl, refl) })
     (Leads-kept s lib0 lib1 tables tables blobs0 blobs1 kf kf vf0 vf1 vc0 vc1 keeps same others went)
-    (Counts-neither memory_refusal _ _ (differs_from 503 503 502 refl (omega arith)) (differs_from 503 503 504 refl (omega arith)) later (omega arith))
+    (Counts-neither (refusal cause.Memory) _ _ (omega arith) (omega arith) later (omega arith))
     (λ is. absurd is)
     (keys-of s lib0 blobs0 blobs1 keeps others)
 
@@ -151,19 +153,19 @@ Acts-refused s request reply lib0 lib1 tables blobs0 blobs1 kf vf0 vf1 vc0 vc1 k
     Acts-of s (change request) reply s _ _ refuses.answers
     (Leads-kept s lib0 lib1 tables tables blobs0 blobs1 kf kf vf0 vf1 vc0 vc1 keeps same others went)
     (record {
-      vault = rose_as (reply.status == 502) vf0 vf1 (λ h. refuses.vault (tested _ _ h)) later;
-      keeper = RoseBy-none _ _ _ (count_status-other reply 504 refuses.keeper) (omega arith);
+      vault = rose_as (reply.status == status_of cause.Vault) vf0 vf1 (λ h. refuses.vault (tested _ _ h)) later;
+      keeper = RoseBy-none _ _ _ (count_status-other reply (status_of cause.Keeper) refuses.keeper) (omega arith);
     })
     (λ is. absurd is)
     (keys-of s lib0 blobs0 blobs1 keeps others)
 
 -- a request that was not looked at acts with no change
-pub Acts-unread : (s : State) (request : Asked) (w : World) → Keeps w.library s → Acts s request memory_refusal w w
+pub Acts-unread : (s : State) (request : Asked) (w : World) → Keeps w.library s → Acts s request (refusal cause.Memory) w w
 Acts-unread s request w keeps =
-    Acts-of s request memory_refusal s w w
+    Acts-of s request (refusal cause.Memory) s w w
     (record { way = without_memory; answers = (refl, refl) })
     (Leads-same s w keeps)
-    (Counts-neither memory_refusal w w (differs_from 503 503 502 refl (omega arith)) (differs_from 503 503 504 refl (omega arith)) (omega arith) (omega arith))
+    (Counts-neither (refusal cause.Memory) w w (omega arith) (omega arith) (omega arith) (omega arith))
     (λ is. refl)
     (keys-stay s.next_take w.blobs)
 
@@ -212,7 +214,7 @@ Acts-made s request p reply lib0 lib1 lib2 tables0 tables2 blobs0 blobs2 kf0 kf2
           (λ old new both held. prepares.files old new held (rw take at both.0) (rw take at both.1))
           blobs0 blobs2 (Goes-both _ _ blobs0 blobs2 others put);
     })
-    (Counts-neither reply _ _ (differs_from _ 201 502 status (omega arith)) (differs_from _ 201 504 status (omega arith)) vlater klater)
+    (Counts-neither reply _ _ (differs_from _ 201 (status_of cause.Vault) status (omega arith)) (differs_from _ 201 (status_of cause.Keeper) status (omega arith)) vlater klater)
     (λ is. absurd is)
     (keys-of s lib0 blobs0 blobs2 keeps others)
 
@@ -233,7 +235,7 @@ Acts-committed s request p reply lib0 lib1 lib2 tables0 tables2 blobs0 blobs2 kf
       | inl h ↦ Acts-made s request p reply lib0 lib1 lib2 tables0 tables2 blobs0 blobs2 kf0 kf2 vf0 vf2 vc0 vc2 keeps same prepares others put vlater klater went h.0 h.1
       | inr other ↦ elim other [
         | inl h ↦
-            let status : reply.status ≡ 504 = ap (λ (r : Reply). r.status) h.0 in
+            let status : reply.status ≡ status_of cause.Keeper = ap (λ (r : Reply). r.status) h.0 in
             Acts-of s (change request) reply s _ _
             (record {
               way = keeper_failed (accepts p.reply prepares.next);
@@ -241,17 +243,17 @@ Acts-committed s request p reply lib0 lib1 lib2 tables0 tables2 blobs0 blobs2 kf
             })
             (Leads-kept s lib0 lib2 tables0 tables2 blobs0 blobs2 kf0 kf2 vf0 vf2 vc0 vc2 keeps (h.1 ∙ same) others back)
             (record {
-              vault = RoseBy-none _ _ _ (count_status-other reply 502 (differs_from _ 504 502 status (omega arith))) vlater;
-              keeper = RoseBy-one _ _ _ (count_status-same reply 504 status) h.2;
+              vault = RoseBy-none _ _ _ (count_status-other reply (status_of cause.Vault) (differs_from _ (status_of cause.Keeper) (status_of cause.Vault) status (omega arith))) vlater;
+              keeper = RoseBy-one _ _ _ (count_status-same reply (status_of cause.Keeper) status) h.2;
             })
             (λ is. absurd is)
             (keys-of s lib0 blobs0 blobs2 keeps others)
         | inr h ↦
-            let status : reply.status ≡ 503 = ap (λ (r : Reply). r.status) h.0 in
+            let status : reply.status ≡ status_of cause.Memory = ap (λ (r : Reply). r.status) h.0 in
             Acts-of s (change request) reply s _ _
             (record { way = without_memory; answers = (h.0, refl) })
             (Leads-kept s lib0 lib2 tables0 tables2 blobs0 blobs2 kf0 kf2 vf0 vf2 vc0 vc2 keeps (h.1 ∙ same) others back)
-            (Counts-neither reply _ _ (differs_from _ 503 502 status (omega arith)) (differs_from _ 503 504 status (omega arith)) vlater klater)
+            (Counts-neither reply _ _ (differs_from _ (status_of cause.Memory) (status_of cause.Vault) status (omega arith)) (differs_from _ (status_of cause.Memory) (status_of cause.Keeper) status (omega arith)) vlater klater)
             (λ is. absurd is)
             (keys-of s lib0 blobs0 blobs2 keeps others)
       ]

@@ -3,8 +3,9 @@ use Rattle.std.proofs.Common.{◌≡◌, ◌≢◌, ◌≤◌, ◌+◌, ℕ, Lis
 use Rattle.std.specs.Io.KnownBytes.{Consumes, IsAtEnd}
 use Rattle.lib_base.specs.declared.sources.ReadEnd.{ReadEnd}
 use Rattle.lib_base.specs.declared.sources.ReadEnd.TheVariants.{End, Full, Fault}
+use Rattle.library_model.specs.declared.refusals.Refusal.TheVariants.{Frame, Size}
 use Rattle.library_model.specs.Framing.{input_limit, ended, unframeable}
-use Rattle.library_model.specs.Replies.{spelled, size_refusal, frame_refusal}
+use Rattle.library_model.specs.Replies.{refusal, spelled}
 use Rattle.library_model.specs.State.{State}
 use Rattle.catalogue_core.specs.Kept.{Keeps}
 use Rattle.library_http.specs.declared.serving.How.{How}
@@ -40,7 +41,7 @@ Session-unread start left text w keeps = (
 -- an input that is too long is refused alone
 pub Session-too-long : (start : State) (how : How) (left rest text0 text1 : Option (List ℕ)) (input : List ℕ) (w : World)
     → Keeps w.library start → length input ≡ input_limit + 1 → Consumes left rest input
-    → EndsBy how (spelled true size_refusal) text0 text1 → Session start how 0 left rest text0 text1 w w
+    → EndsBy how (spelled true (refusal Size)) text0 text1 → Session start how 0 left rest text0 text1 w w
 Session-too-long start Ended left rest text0 text1 input w keeps long took ends = absurd ends
 Session-too-long start SourceFault left rest text0 text1 input w keeps long took ends = absurd ends
 Session-too-long start Unframeable left rest text0 text1 input w keeps long took ends = (
@@ -48,7 +49,7 @@ Session-too-long start Unframeable left rest text0 text1 input w keeps long took
   took,
   omega arith,
   (λ within. absurd (omega arith)),
-  size_refusal,
+  refusal Size,
   [],
   ends,
   Answered-too-long start input w keeps (omega arith),
@@ -56,20 +57,20 @@ Session-too-long start Unframeable left rest text0 text1 input w keeps long took
 Session-too-long start SinkFault left rest text0 text1 input w keeps long took ends = (
   input,
   took,
-  inr (BreaksOffAtEnd-refusal start input size_refusal 0 [] rest text0 text0 text1 w w (omega arith)
+  inr (BreaksOffAtEnd-refusal start input (refusal Size) 0 [] rest text0 text0 text1 w w (omega arith)
       (λ within. absurd (omega arith)) (Answered-too-long start input w keeps (omega arith)) (Appends-none text0) ends),
 )
 Session-too-long start Memory left rest text0 text1 input w keeps long took ends = (
   input,
   took,
-  inr (inl (BreaksOffAtEnd-refusal start input size_refusal 0 [] rest text0 text0 text1 w w (omega arith)
+  inr (inl (BreaksOffAtEnd-refusal start input (refusal Size) 0 [] rest text0 text0 text1 w w (omega arith)
       (λ within. absurd (omega arith)) (Answered-too-long start input w keeps (omega arith)) (Appends-none text0) ends)),
 )
 
 -- a refusal that ends a whole input
 Session-refused : (start : State) (how : How) (n : ℕ) (left rest text0 text1 text2 : Option (List ℕ)) (input : List ℕ) (w0 w1 : World)
     → length input ≤ input_limit → Consumes left rest input → IsAtEnd rest → Stops start input AtRefusal n text0 text1 w0 w1
-    → EndsBy how (spelled true frame_refusal) text1 text2 → Session start how n left rest text0 text2 w0 w1
+    → EndsBy how (spelled true (refusal Frame)) text1 text2 → Session start how n left rest text0 text2 w0 w1
 Session-refused start Ended n left rest text0 text1 text2 input w0 w1 short took at_end stops ends = absurd ends
 Session-refused start SourceFault n left rest text0 text1 text2 input w0 w1 short took at_end stops ends = absurd ends
 Session-refused start Unframeable n left rest text0 text1 text2 input w0 w1 short took at_end stops ends = (
@@ -77,15 +78,15 @@ Session-refused start Unframeable n left rest text0 text1 text2 input w0 w1 shor
   took,
   omega arith,
   (λ _. at_end),
-  frame_refusal,
+  refusal Frame,
   stops.0,
-  Appends-refused text0 text1 text2 stops.0 frame_refusal stops.1 ends,
+  Appends-refused text0 text1 text2 stops.0 (refusal Frame) stops.1 ends,
   stops.2,
 )
 Session-refused start SinkFault n left rest text0 text1 text2 input w0 w1 short took at_end stops ends =
-    (input, took, inr (BreaksOffAtEnd-refusal start input frame_refusal n stops.0 rest text0 text1 text2 w0 w1 (omega arith) (λ _. at_end) stops.2 stops.1 ends))
+    (input, took, inr (BreaksOffAtEnd-refusal start input (refusal Frame) n stops.0 rest text0 text1 text2 w0 w1 (omega arith) (λ _. at_end) stops.2 stops.1 ends))
 Session-refused start Memory n left rest text0 text1 text2 input w0 w1 short took at_end stops ends =
-    (input, took, inr (inl (BreaksOffAtEnd-refusal start input frame_refusal n stops.0 rest text0 text1 text2 w0 w1 (omega arith) (λ _. at_end) stops.2 stops.1 ends)))
+    (input, took, inr (inl (BreaksOffAtEnd-refusal start input (refusal Frame) n stops.0 rest text0 text1 text2 w0 w1 (omega arith) (λ _. at_end) stops.2 stops.1 ends)))
 
 -- an end that writes nothing more
 ends_so : (start : State) (how so : How) (n : ℕ) (left rest text0 text1 text2 : Option (List ℕ)) (w0 w1 : World)
@@ -109,7 +110,7 @@ Session-after start AtEnd End how n left rest text0 text1 text2 input w0 w1 shor
     (input, took, at_end refl, stops.0, Appends-ended text0 text1 stops.0 stops.1, stops.2)
 Session-after start AtEnd Full how n left rest text0 text1 text2 input w0 w1 short took at_end whole stops ends = absurd (whole refl)
 Session-after start AtRefusal Fault how n left rest text0 text1 text2 input w0 w1 short took at_end whole stops ends =
-    ends_so start how SourceFault n left rest text0 text1 text2 w0 w1 ends.0 ends.1 (input, took, short, unframeable frame_refusal, stops.0, stops.1, stops.2)
+    ends_so start how SourceFault n left rest text0 text1 text2 w0 w1 ends.0 ends.1 (input, took, short, unframeable (refusal Frame), stops.0, stops.1, stops.2)
 Session-after start AtRefusal End how n left rest text0 text1 text2 input w0 w1 short took at_end whole stops ends =
     Session-refused start how n left rest text0 text1 text2 input w0 w1 short took (at_end refl) stops ends
 Session-after start AtRefusal Full how n left rest text0 text1 text2 input w0 w1 short took at_end whole stops ends = absurd (whole refl)
