@@ -11,7 +11,9 @@ use Rattle.library_model.specs.declared.messages.Command.TheVariants.{Import}
 use Rattle.library_model.specs.declared.messages.Reply.{Reply}
 use Rattle.library_model.specs.declared.messages.Request.{Request}
 use Rattle.library_model.specs.Machine.{recording_reply, new_recording, imported, import_verdict, stays, accepts, as_decided, vault_failed}
-use Rattle.library_model.specs.Replies.{json, recording_text, format_refusal, ids_refusal, vault_refusal}
+use Rattle.library_model.specs.Replies.{json, recording_text, format_refusal, refusal}
+use Rattle.library_model.specs.declared.refusals.Refusal.TheVariants.{Format, Ids, Vault, Keeper, Memory}
+use Rattle.library_model.specs.Refusals.{status_of}
 use Rattle.library_model.specs.Stands.{tables_of}
 use Rattle.library_model.specs.State.{State, IsValid, numbers_end}
 use Rattle.library_model.proofs.Imports.{imported-IsValid, tables_of-imported, HoldsFiles-imported}
@@ -35,23 +37,23 @@ other_status reply status other is differs e = differs (sym is ∙ e)
 pub RefusesBy-broken : (s : State) (file : List ℕ) (rule : Rule) (place : ℕ) (reply : Reply) (before now : ℕ)
     → Finds file (broken_by rule place) → reply ≡ format_refusal rule place → RefusesBy s (import_of file) reply before now
 RefusesBy-broken s file rule place reply before now reads is =
-    let status : reply.status ≡ 422 = ap (λ (r : Reply). r.status) is in
+    let status : reply.status ≡ status_of Format = ap (λ (r : Reply). r.status) is in
     record {
       answers = record {
         way = as_decided (stays (format_refusal rule place));
         answers = ((broken_by rule place, reads, refl), is, refl);
       };
-      vault = λ e. absurd (other_status reply 422 502 status (omega arith) e);
-      keeper = other_status reply 422 504 status (omega arith);
-      memory = other_status reply 422 503 status (omega arith);
+      vault = λ e. absurd (other_status reply (status_of Format) (status_of Vault) status (omega arith) e);
+      keeper = other_status reply (status_of Format) (status_of Keeper) status (omega arith);
+      memory = other_status reply (status_of Format) (status_of Memory) status (omega arith);
     }
 
 -- with no number left the import is refused, and else it is accepted
 import_verdict-lacks : (s : State) (file : List ℕ) (sound : Pcm) (summary : Summary) (lacks : Bool) → lacks_numbers (tables_of s) ≡ lacks
     → import_verdict s file (measured sound summary)
-    ≡ (if lacks then stays ids_refusal else accepts (recording_reply 201 (new_recording s file sound summary)) (imported s file sound summary))
+    ≡ (if lacks then stays (refusal Ids) else accepts (recording_reply 201 (new_recording s file sound summary)) (imported s file sound summary))
 import_verdict-lacks s file sound summary lacks h =
-    ap (λ b. if b then stays ids_refusal else accepts (recording_reply 201 (new_recording s file sound summary)) (imported s file sound summary)) h
+    ap (λ b. if b then stays (refusal Ids) else accepts (recording_reply 201 (new_recording s file sound summary)) (imported s file sound summary)) h
 
 -- both numbers are left where none is lacking
 below_end : (a b end : ℕ) → (nat_le end a || nat_le end b) ≡ false → (a < end) × (b < end)
@@ -59,32 +61,32 @@ below_end a b end h = (grind (arith, nat_tests), grind (arith, nat_tests))
 
 -- the import is refused for want of a number
 RefusesBy-ids : (s : State) (file : List ℕ) (sound : Pcm) (summary : Summary) (reply : Reply) (before now : ℕ) → Finds file (measured sound summary)
-    → lacks_numbers (tables_of s) ≡ true → reply ≡ ids_refusal → RefusesBy s (import_of file) reply before now
+    → lacks_numbers (tables_of s) ≡ true → reply ≡ refusal Ids → RefusesBy s (import_of file) reply before now
 RefusesBy-ids s file sound summary reply before now reads lacks is =
-    let status : reply.status ≡ 409 = ap (λ (r : Reply). r.status) is in
+    let status : reply.status ≡ status_of Ids = ap (λ (r : Reply). r.status) is in
     record {
       answers = record {
-        way = as_decided (stays ids_refusal);
+        way = as_decided (stays (refusal Ids));
         answers = ((measured sound summary, reads, sym (import_verdict-lacks s file sound summary true lacks)), is, refl);
       };
-      vault = λ e. absurd (other_status reply 409 502 status (omega arith) e);
-      keeper = other_status reply 409 504 status (omega arith);
-      memory = other_status reply 409 503 status (omega arith);
+      vault = λ e. absurd (other_status reply (status_of Ids) (status_of Vault) status (omega arith) e);
+      keeper = other_status reply (status_of Ids) (status_of Keeper) status (omega arith);
+      memory = other_status reply (status_of Ids) (status_of Memory) status (omega arith);
     }
 
 -- the import is refused for a fault of the vault
 RefusesBy-vault : (s : State) (file : List ℕ) (sound : Pcm) (summary : Summary) (reply : Reply) (before now : ℕ) → Finds file (measured sound summary)
-    → lacks_numbers (tables_of s) ≡ false → reply ≡ vault_refusal → Rose before now → RefusesBy s (import_of file) reply before now
+    → lacks_numbers (tables_of s) ≡ false → reply ≡ refusal Vault → Rose before now → RefusesBy s (import_of file) reply before now
 RefusesBy-vault s file sound summary reply before now reads lacks is rose =
-    let status : reply.status ≡ 502 = ap (λ (r : Reply). r.status) is in
+    let status : reply.status ≡ status_of Vault = ap (λ (r : Reply). r.status) is in
     record {
       answers = record {
         way = vault_failed (accepts (recording_reply 201 (new_recording s file sound summary)) (imported s file sound summary));
         answers = ((measured sound summary, reads, sym (import_verdict-lacks s file sound summary false lacks)), tt, is, refl);
       };
       vault = λ _. rose;
-      keeper = other_status reply 502 504 status (omega arith);
-      memory = other_status reply 502 503 status (omega arith);
+      keeper = other_status reply (status_of Vault) (status_of Keeper) status (omega arith);
+      memory = other_status reply (status_of Vault) (status_of Memory) status (omega arith);
     }
 
 -- a prepared import is that of the request

@@ -6,7 +6,8 @@ use Rattle.keeper_store.specs.Changes.{changed_all}
 use Rattle.keeper_store.specs.Goes.{Goes, RoseByOneAtMost}
 use Rattle.keeper_store.specs.Keepers.{KeeperView}
 use Rattle.library_model.specs.declared.messages.Reply.{Reply}
-use Rattle.library_model.specs.Replies.{memory_refusal, keeper_refusal}
+use Rattle.library_model.specs.declared.refusals.Refusal.TheVariants.{Keeper, Memory}
+use Rattle.library_model.specs.Replies.{refusal}
 use Rattle.catalogue_core.specs.declared.libraries.Library.{Library}
 use Rattle.catalogue_core.specs.declared.prepared.Prepared.{Prepared}
 use Rattle.catalogue_core.specs.Kept.{kept_tables, HasRoom}
@@ -15,8 +16,8 @@ use Rattle.catalogue_core.specs.Kept.{kept_tables, HasRoom}
 abbrev pub Settles : Prepared → Tables → Tables → ℕ → ℕ → Reply → Type 0
 Settles p old new before now reply =
     ((reply ≡ p.reply) × (new ≡ changed_all p.batch.changes old))
-    ⊎ (((reply ≡ keeper_refusal) × (new ≡ old) × Rose before now)
-    ⊎ ((reply ≡ memory_refusal) × (new ≡ old)))
+    ⊎ (((reply ≡ refusal Keeper) × (new ≡ old) × Rose before now)
+    ⊎ ((reply ≡ refusal Memory) × (new ≡ old)))
 
 -- What a commit does to the library and the keeper: the change is settled, with one `apply` at most. Where the library
 -- keeps the keeper's tables, it keeps them again.

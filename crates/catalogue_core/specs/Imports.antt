@@ -9,7 +9,8 @@ use Rattle.keeper_store.specs.declared.contents.Change.TheVariants.{Counters, Pu
 use Rattle.keeper_store.specs.declared.row_types.RecordingRow.{RecordingRow}
 use Rattle.keeper_store.specs.declared.row_types.SegmentRow.{SegmentRow}
 use Rattle.keeper_store.specs.EnergyBytes.{row_bytes}
-use Rattle.library_model.specs.Replies.{json, recording_text, ids_refusal, vault_refusal}
+use Rattle.library_model.specs.declared.refusals.Refusal.TheVariants.{Ids, Vault}
+use Rattle.library_model.specs.Replies.{json, recording_text, refusal}
 use Rattle.library_model.specs.State.{numbers_end}
 use Rattle.catalogue_core.specs.declared.measures.Measure.{Measure}
 use Rattle.catalogue_core.specs.declared.prepared.Prepared.{Prepared}
@@ -52,6 +53,6 @@ lacks_numbers t = nat_le numbers_end t.next_recording || nat_le numbers_end t.ne
 -- what staging the import of an accepted file answers: `ids`, a fault of the vault, or the prepared import
 abbrev pub StagesAccepted : Tables → List ℕ → Measure → ℕ → ℕ → Staged → Type 0
 StagesAccepted t file measure before now (Refused reply) =
-    ((lacks_numbers t ≡ true) × (reply ≡ ids_refusal))
-    ⊎ ((lacks_numbers t ≡ false) × (reply ≡ vault_refusal) × Rose before now)
+    ((lacks_numbers t ≡ true) × (reply ≡ refusal Ids))
+    ⊎ ((lacks_numbers t ≡ false) × (reply ≡ refusal Vault) × Rose before now)
 StagesAccepted t file measure before now (Ready p) = (lacks_numbers t ≡ false) × PreparesImport t file measure p

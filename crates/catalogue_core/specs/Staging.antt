@@ -10,7 +10,9 @@ use Rattle.library_model.specs.declared.messages.Command.{Command}
 use Rattle.library_model.specs.declared.messages.Command.TheVariants.{Import}
 use Rattle.library_model.specs.declared.messages.Request.{Request}
 use Rattle.library_model.specs.declared.messages.Reply.{Reply}
+use Rattle.library_model.specs.declared.refusals.Refusal.TheVariants as cause
 use Rattle.library_model.specs.Asked.{change}
+use Rattle.library_model.specs.Refusals.{status_of}
 use Rattle.library_model.specs.State.{State, IsValid}
 use Rattle.library_model.specs.Machine.{Decides, accepts, Answer}
 use Rattle.library_model.specs.Stands.{tables_of, HoldsFiles}
@@ -36,12 +38,12 @@ pub record Prepares (s : State) (request : Request) (p : Prepared) : Type 0 wher
       → HoldsFileOf request.command s.next_take new → HoldsFiles new next.recordings
   pub granted : p.reply.status ≡ 201
 
--- A refusal answers the request, with no change: 502 only where the vault's count rose, and never 503 or 504.
+-- A refusal answers the request, with no change: `Vault` only where the vault's count rose, never `Keeper` or `Memory`.
 pub record RefusesBy (s : State) (request : Request) (reply : Reply) (before now : ℕ) : Type 0 where
   pub answers : Answer s (change request) reply s
-  pub vault : reply.status ≡ 502 → Rose before now
-  pub keeper : reply.status ≢ 504
-  pub memory : reply.status ≢ 503
+  pub vault : reply.status ≡ status_of cause.Vault → Rose before now
+  pub keeper : reply.status ≢ status_of cause.Keeper
+  pub memory : reply.status ≢ status_of cause.Memory
 
 -- what staging a request from s answers, where the vault's count of faults went from `before` to `now`
 abbrev pub StagedFrom : State → Request → ℕ → ℕ → Staged → Type 0
@@ -54,9 +56,9 @@ IfReady (Ok (Ready p)) P = P p
 IfReady (Ok (Refused reply)) P = ⊤
 IfReady (Err e) P = ⊤
 
--- a refusal other than 502 leaves the vault as it was
+-- a refusal other than `Vault` leaves the vault as it was
 abbrev pub LeavesUnlessFailed : {V : Type 0} → Result Staged Memory → V → V → Type 0
-LeavesUnlessFailed (Ok (Refused reply)) old new = reply.status ≢ 502 → new ≡ old
+LeavesUnlessFailed (Ok (Refused reply)) old new = reply.status ≢ status_of cause.Vault → new ≡ old
 LeavesUnlessFailed (Ok (Ready p)) old new = ⊤
 LeavesUnlessFailed (Err e) old new = ⊤
 

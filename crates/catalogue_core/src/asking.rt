@@ -10,7 +10,7 @@ use crate::Library;
 use crate::reply_texts::{Described, describe_recording, refuse};
 use keeper_store::{RecordingRow, Vault};
 use lib_base::Memory;
-use library_model::{Question, Reply};
+use library_model::{Question, Refusal, Reply};
 
 /// Answers a question from the rows that the library keeps. It makes no call of the vault, which
 /// waits for questions after files.
@@ -29,7 +29,7 @@ fn ask_recording(library: &Library, id: u32) -> Result<Reply, Memory>
 {
     match row_of(library.recordings.as_slice(), id) {
         Some(row) => describe_recording(library.alloc, 200, described(row)),
-        None => refuse(library.alloc, 404, "no-recording"),
+        None => refuse(library.alloc, Refusal::NoRecording),
     }
 }
 

@@ -10,8 +10,8 @@ use lib_base::Outside;
 use library_model::Reply;
 
 /// Makes the change with one `apply` of the keeper, and answers its reply. A refusal of the keeper
-/// changes nothing, and is answered 504 for a fault that it counted, or 503 for want of memory. It
-/// takes no memory of its own.
+/// changes nothing, and is answered `Keeper` for a fault that it counted, or `Memory`. It takes no
+/// memory of its own.
 pub fn commit<D: Keeper>(library: &mut Library, ready: Prepared, keeper: &mut D) -> Reply
     requires { Fits library.old ready }
     ensures { Commits ready library.old library.new (D.shown keeper.old) (D.shown keeper.new) result }

@@ -10,6 +10,7 @@ use crate::reply_texts::{Described, describe_recording, refuse};
 use crate::{Library, Prepared};
 use keeper_store::{Batch, Change, RecordingRow, Rows, SegmentRow, bytes_of};
 use lib_base::{Kind, Memory, Text};
+use library_model::Refusal;
 use md5::{Digest, Md5};
 
 /// Prepares the import of a file of that measure, and makes room for it. It takes all the memory
@@ -34,8 +35,9 @@ pub fn prepare_import(
         summary: measure.summary,
     };
     let reply = describe_recording(alloc, 201, described)?;
-    let keeper_refusal = refuse(alloc, 504, "keeper")?;
-    let memory_refusal = refuse(alloc, 503, "memory")?;
+    // `commit` takes no memory, so both refusals that it may answer are made here
+    let keeper_refusal = refuse(alloc, Refusal::Keeper)?;
+    let memory_refusal = refuse(alloc, Refusal::Memory)?;
     let batch = import_batch(library, file, measure)?;
     Ok(Prepared {
         batch,

@@ -1,6 +1,7 @@
 //! A change that was decided, and for which all memory was taken.
 ghost use Rattle.std.specs.Prelude.{◌≡◌};
-ghost use Rattle.library_model.specs.Replies as model;
+ghost use Rattle.library_model.specs.Replies.{refusal};
+ghost use Rattle.library_model.specs.declared.refusals.Refusal.TheVariants.{Keeper, Memory};
 
 use keeper_store::Batch;
 use library_model::Reply;
@@ -13,8 +14,8 @@ pub struct Prepared {
     pub(crate) reply: Reply,
     pub(crate) keeper_refusal: Reply,
     pub(crate) memory_refusal: Reply,
-    ghost of_keeper: { keeper_refusal ≡ model.keeper_refusal },
-    ghost of_memory: { memory_refusal ≡ model.memory_refusal },
+    ghost of_keeper: { keeper_refusal ≡ refusal Keeper },
+    ghost of_memory: { memory_refusal ≡ refusal Memory },
 }
 
 /// What staging a request gives.

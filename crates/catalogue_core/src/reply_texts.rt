@@ -6,7 +6,7 @@ ghost use Rattle.library_model.specs.Replies as model;
 
 use db_table::peak_text;
 use lib_base::{Broken, Bytes, Memory, Summary};
-use library_model::{BodyKind, Reply};
+use library_model::{BodyKind, Refusal, Reply};
 use serde_json::{Value, json};
 use std::alloc::{AllocError, Global};
 
@@ -19,12 +19,13 @@ pub struct Described {
     pub summary: Summary,
 }
 
-/// A refusal that is named by a word.
-pub fn refuse(alloc: Global, status: u16, word: &str) -> Result<Reply, Memory>
-    ensures { IfOk result (λ reply. reply ≡ model.refusal status word.now) }
+/// The refusal for that cause.
+pub fn refuse(alloc: Global, cause: Refusal) -> Result<Reply, Memory>
+    ensures { IfOk result (λ reply. reply ≡ model.refusal cause) }
 {
+    let word = cause.word();
     let text = format!(in alloc; "{{\"error\":\"{word}\"}}")?;
-    Ok(json_reply(status, text))
+    Ok(json_reply(cause.status(), text))
 }
 
 /// The refusal of a file that breaks a rule.
@@ -32,8 +33,9 @@ pub fn refuse_format(alloc: Global, broken: Broken) -> Result<Reply, Memory>
     ensures { IfOk result (λ reply. reply ≡ model.format_refusal broken.rule broken.place) }
 {
     let Broken { rule, place } = broken;
-    let text = format!(in alloc; "{{\"error\":\"format\",\"place\":{place},\"rule\":\"{rule}\"}}")?;
-    Ok(json_reply(422, text))
+    let word = Refusal::Format.word();
+    let text = format!(in alloc; "{{\"error\":\"{word}\",\"place\":{place},\"rule\":\"{rule}\"}}")?;
+    Ok(json_reply(Refusal::Format.status(), text))
 }
 
 /// What is replied about a recording.

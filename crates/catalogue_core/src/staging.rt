@@ -12,7 +12,7 @@ use crate::reply_texts::{refuse, refuse_format};
 use crate::{Library, Staged};
 use keeper_store::Vault;
 use lib_base::{Bytes, Memory, Outside};
-use library_model::{Command, Request};
+use library_model::{Command, Refusal, Request};
 
 /// The number from which on none is given to a recording or a take.
 const NUMBERS_END: u32 = 2_147_483_647;
@@ -28,7 +28,7 @@ pub fn stage<V: Vault>(
         → IfOk result (StagedFrom s request (V.shown vault.old).faults (V.shown vault.new).faults) }
     ensures stages { Stages request.command library.old library.new (V.shown vault.old) (V.shown vault.new) result }
 
-    // The vault does not change at a refusal other than 502.
+    // The vault does not change at a refusal other than `Vault`.
     ensures untouched { LeavesUnlessFailed result vault.old vault.new }
 {
     let Request { command } = request;
@@ -67,13 +67,12 @@ fn stage_accepted<V: Vault>(
 {
     let alloc = library.alloc;
     if has_no_number(library) {
-        return Ok(Staged::Refused(refuse(alloc, 409, "ids")?));
+        return Ok(Staged::Refused(refuse(alloc, Refusal::Ids)?));
     }
     let ready = prepare_import(library, file, measure)?;
-    let vault_refusal = refuse(alloc, 502, "vault")?;
     match vault.put(library.next_take, file) {
         Ok(()) => Ok(Staged::Ready(ready)),
-        Err(Outside::Failed) => Ok(Staged::Refused(vault_refusal)),
+        Err(Outside::Failed) => Ok(Staged::Refused(refuse(alloc, Refusal::Vault)?)),
         Err(Outside::Memory) => Err(Memory),
     }
 }

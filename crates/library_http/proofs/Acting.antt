@@ -15,9 +15,11 @@ use Rattle.library_model.specs.declared.messages.Reply.{Reply}
 use Rattle.library_model.specs.declared.messages.Request.{Request}
 use Rattle.library_model.specs.declared.messages.Question.{Question}
 use Rattle.library_model.specs.declared.messages.Question.TheVariants as about
+use Rattle.library_model.specs.declared.refusals.Refusal.TheVariants as cause
 use Rattle.library_model.specs.Asked.{Asked, IsQuestion, change, question}
 use Rattle.library_model.specs.Machine.{Answer, AnswersBy, Way, accepts, stays, as_decided, without_memory, vault_failed, keeper_failed, count_status, question_reply, found_reply, recording_of}
-use Rattle.library_model.specs.Replies.{memory_refusal}
+use Rattle.library_model.specs.Refusals.{status_of}
+use Rattle.library_model.specs.Replies.{refusal}
 use Rattle.library_model.specs.Stands.{tables_of}
 use Rattle.library_model.specs.State.{Recording, State}
 use Rattle.library_model.proofs.Imports.{HoldsFiles-kept}
@@ -63,12 +65,12 @@ RoseBy-none many before now none later = omega arith
 RoseBy-one : (many before now : ℕ) → many ≡ 1 → RoseBy 1 before now → RoseBy many before now
 RoseBy-one many before now one rose = omega arith
 
--- a reply that is neither 502 nor 504 asks for no fault
-Counts-neither : (reply : Reply) (w0 w1 : World) → reply.status ≢ 502 → reply.status ≢ 504 → w0.vault.faults ≤ w1.vault.faults
+-- a reply that is neither `Vault` nor `Keeper` asks for no fault
+Counts-neither : (reply : Reply) (w0 w1 : World) → reply.status ≢ (status_of cause.Vault) → reply.status ≢ (status_of cause.Keeper) → w0.vault.faults ≤ w1.vault.faults
     → w0.keeper.faults ≤ w1.keeper.faults → Counts (reply ∷ []) w0 w1
 Counts-neither reply w0 w1 vault keeper vault_later keeper_later = record {
-  vault = RoseBy-none _ _ _ (count_status-other reply 502 vault) vault_later;
-  keeper = RoseBy-none _ _ _ (count_status-other reply 504 keeper) keeper_later;
+  vault = RoseBy-none _ _ _ (count_status-other reply (status_of cause.Vault) vault) vault_later;
+  keeper = RoseBy-none _ _ _ (count_status-other reply (status_of cause.Keeper) keeper) keeper_later;
 }
 
 -- without a fault that was counted, an answer is the one that is decided, or memory was wanting
@@ -81,12 +83,12 @@ settled_without_faults s request reply next w0 w1 answer counts vault keeper = b
     by_way (as_decided verdict) answers = inl (verdict, answers)
     by_way without_memory answers = inr answers
     by_way (vault_failed verdict) answers =
-        let counted : count_status 502 (reply ∷ []) ≡ 1 =
-        count_status-same reply 502 (ap (λ (r : Reply). r.status) answers.2) in
+        let counted : count_status (status_of cause.Vault) (reply ∷ []) ≡ 1 =
+        count_status-same reply (status_of cause.Vault) (ap (λ (r : Reply). r.status) answers.2) in
         absurd (vault (subst (λ (n : ℕ). RoseBy n w0.vault.faults w1.vault.faults) counted counts.vault))
     by_way (keeper_failed verdict) answers =
-        let counted : count_status 504 (reply ∷ []) ≡ 1 =
-        count_status-same reply 504 (ap (λ (r : Reply). r.status) answers.2) in
+        let counted : count_status (status_of cause.Keeper) (reply ∷ []) ≡ 1 =
+        count_status-same reply (status_of cause.Keeper) (ap (λ (r : Reply). r.status) answers.2) in
         absurd (keeper (subst (λ (n : ℕ). RoseBy n w0.keeper.faults w1.keeper.faults) counted counts.keeper))
 
 -- an answer acts that leads the library so, with its faults counted, and the vault changed under the next take alone
@@ -140,12 +142,12 @@ Leads-staged s command r lib0 lib1 keeper vault0 vault1 keeps stages =
 -- want of memory acts with no change
 pub Acts-memory : (s : State) (request : Request) (r : Result Staged Memory) (lib0 lib1 : Library) (keeper : KeeperView)
     (vault0 vault1 : VaultView) → Keeps lib0 s → Stages request.command lib0 lib1 vault0 vault1 r
-    → Acts s (change request) memory_refusal (world lib0 keeper vault0) (world lib1 keeper vault1)
+    → Acts s (change request) (refusal cause.Memory) (world lib0 keeper vault0) (world lib1 keeper vault1)
 Acts-memory s request r lib0 lib1 keeper vault0 vault1 keeps stages =
-    Acts-of s (change request) memory_refusal s _ _
+    Acts-of s (change request) (refusal cause.Memory) s _ _
     (record { way = without_memory; answers = (refl, refl) })
     (Leads-staged s request.command r lib0 lib1 keeper vault0 vault1 keeps stages)
-    (Counts-neither memory_refusal _ _ (differs_from 503 503 502 refl (omega arith)) (differs_from 503 503 504 refl (omega arith)) stages.later (omega arith))
+    (Counts-neither (refusal cause.Memory) _ _ (differs_from (status_of cause.Memory) (status_of cause.Memory) (status_of cause.Vault) refl (omega arith)) (differs_from (status_of cause.Memory) (status_of cause.Memory) (status_of cause.Keeper) refl (omega arith)) stages.later (omega arith))
     (λ is. absurd is)
     (keys-of s lib0 vault0.blobs vault1.blobs keeps stages.others)
 
@@ -158,19 +160,19 @@ Acts-refused s request reply r lib0 lib1 keeper vault0 vault1 keeps stages refus
     Acts-of s (change request) reply s _ _ refuses.answers
     (Leads-staged s request.command r lib0 lib1 keeper vault0 vault1 keeps stages)
     (record {
-      vault = rose_as (reply.status == 502) vault0.faults vault1.faults (λ h. refuses.vault (tested _ _ h)) stages.later;
-      keeper = RoseBy-none _ _ _ (count_status-other reply 504 refuses.keeper) (omega arith);
+      vault = rose_as (reply.status == (status_of cause.Vault)) vault0.faults vault1.faults (λ h. refuses.vault (tested _ _ h)) stages.later;
+      keeper = RoseBy-none _ _ _ (count_status-other reply (status_of cause.Keeper) refuses.keeper) (omega arith);
     })
     (λ is. absurd is)
     (keys-of s lib0 vault0.blobs vault1.blobs keeps stages.others)
 
 -- a request that was not looked at acts with no change
-pub Acts-unread : (s : State) (request : Asked) (w : World) → Keeps w.library s → Acts s request memory_refusal w w
+pub Acts-unread : (s : State) (request : Asked) (w : World) → Keeps w.library s → Acts s request (refusal cause.Memory) w w
 Acts-unread s request w keeps =
-    Acts-of s request memory_refusal s w w
+    Acts-of s request (refusal cause.Memory) s w w
     (record { way = without_memory; answers = (refl, refl) })
     (Leads-same s w keeps)
-    (Counts-neither memory_refusal w w (differs_from 503 503 502 refl (omega arith)) (differs_from 503 503 504 refl (omega arith)) (omega arith) (omega arith))
+    (Counts-neither (refusal cause.Memory) w w (omega arith) (omega arith) (omega arith) (omega arith))
     (λ is. refl)
     (keys-stay s.next_take w.vault.blobs)
 
@@ -217,7 +219,7 @@ Acts-made s request p reply r lib0 lib1 lib2 keeper0 keeper2 vault0 vault2 keeps
           (λ old new both held. prepares.files old new held (rw take at both.0) (rw take at both.1))
           vault0.blobs vault2.blobs (Goes-both _ _ vault0.blobs vault2.blobs stages.others put);
     })
-    (Counts-neither reply _ _ (differs_from _ 201 502 status (omega arith)) (differs_from _ 201 504 status (omega arith)) stages.later commits.later)
+    (Counts-neither reply _ _ (differs_from _ 201 (status_of cause.Vault) status (omega arith)) (differs_from _ 201 (status_of cause.Keeper) status (omega arith)) stages.later commits.later)
     (λ is. absurd is)
     (keys-of s lib0 vault0.blobs vault2.blobs keeps stages.others)
 
@@ -236,7 +238,7 @@ Acts-committed s request p reply r lib0 lib1 lib2 keeper0 keeper2 vault0 vault2 
       | inl h ↦ Acts-made s request p reply r lib0 lib1 lib2 keeper0 keeper2 vault0 vault2 keeps stages prepares put commits h.0 h.1
       | inr other ↦ elim other [
         | inl h ↦
-            let status : reply.status ≡ 504 = ap (λ (r : Reply). r.status) h.0 in
+            let status : reply.status ≡ status_of cause.Keeper = ap (λ (r : Reply). r.status) h.0 in
             Acts-of s (change request) reply s _ _
             (record {
               way = keeper_failed (accepts p.reply prepares.next);
@@ -244,17 +246,17 @@ Acts-committed s request p reply r lib0 lib1 lib2 keeper0 keeper2 vault0 vault2 
             })
             (Leads-kept s w0 w2 keeps (h.1 ∙ stages.kept) stages.others back)
             (record {
-              vault = RoseBy-none _ _ _ (count_status-other reply 502 (differs_from _ 504 502 status (omega arith))) stages.later;
-              keeper = RoseBy-one _ _ _ (count_status-same reply 504 status) h.2;
+              vault = RoseBy-none _ _ _ (count_status-other reply (status_of cause.Vault) (differs_from _ (status_of cause.Keeper) (status_of cause.Vault) status (omega arith))) stages.later;
+              keeper = RoseBy-one _ _ _ (count_status-same reply (status_of cause.Keeper) status) h.2;
             })
             (λ is. absurd is)
             (keys-of s lib0 vault0.blobs vault2.blobs keeps stages.others)
         | inr h ↦
-            let status : reply.status ≡ 503 = ap (λ (r : Reply). r.status) h.0 in
+            let status : reply.status ≡ status_of cause.Memory = ap (λ (r : Reply). r.status) h.0 in
             Acts-of s (change request) reply s _ _
             (record { way = without_memory; answers = (h.0, refl) })
             (Leads-kept s w0 w2 keeps (h.1 ∙ stages.kept) stages.others back)
-            (Counts-neither reply _ _ (differs_from _ 503 502 status (omega arith)) (differs_from _ 503 504 status (omega arith)) stages.later commits.later)
+            (Counts-neither reply _ _ (differs_from _ (status_of cause.Memory) (status_of cause.Vault) status (omega arith)) (differs_from _ (status_of cause.Memory) (status_of cause.Keeper) status (omega arith)) stages.later commits.later)
             (λ is. absurd is)
             (keys-of s lib0 vault0.blobs vault2.blobs keeps stages.others)
       ]

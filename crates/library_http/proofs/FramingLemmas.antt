@@ -80,10 +80,10 @@ HasImport-found bytes headers r size found short few method path written inside 
     }
 
 -- A head of a question is a question.
-pub HasQuestion-found : (bytes : List ℕ) (headers : List HeaderSpan) (r : RequestSpans) (asked : Question)
+pub HasRequest-question : (bytes : List ℕ) (headers : List HeaderSpan) (r : RequestSpans) (asked : Question)
     → IsRequestOf bytes headers r → r.len ≤ 8192 → length headers ≤ 32 → r.len ≤ length bytes
     → IsQuestionIn (span_bytes bytes r.method) (span_bytes bytes r.path) asked → HasRequest bytes (question asked) r.len
-HasQuestion-found bytes headers r asked found short few inside x =
+HasRequest-question bytes headers r asked found short few inside x =
     let at = found.1 in
     let fields : length found.0.fields ≤ length headers = fields_few bytes headers r found in
     record {

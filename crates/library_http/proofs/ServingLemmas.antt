@@ -9,10 +9,12 @@ use Rattle.lib_base.specs.Writes.{AppendsPart, SinkView}
 use Rattle.keeper_store.specs.Blobs.{Blobs}
 use Rattle.keeper_store.specs.declared.contents.Tables.{Tables}
 use Rattle.library_model.specs.declared.messages.Reply.{Reply}
+use Rattle.library_model.specs.declared.refusals.Refusal.TheVariants.{Frame, Size, Vault, Keeper}
 use Rattle.library_model.specs.Asked.{Asked, IsQuestion}
 use Rattle.library_model.specs.Framing.{Begins, BeginNoRequest, EndsAs, RequestsOf, End, ended, unframeable, output, input_limit}
 use Rattle.library_model.specs.Machine.{Answers, count_status}
-use Rattle.library_model.specs.Replies.{spelled, spelled_all, size_refusal, frame_refusal}
+use Rattle.library_model.specs.Refusals.{status_of}
+use Rattle.library_model.specs.Replies.{refusal, spelled, spelled_all}
 use Rattle.library_model.specs.Stands.{tables_of, HoldsFiles}
 use Rattle.library_model.specs.State.{State}
 use Rattle.library_model.proofs.Readings.{RequestsOf-unique, Begins-shorter}
@@ -60,8 +62,8 @@ Leads-same s w keeps = record {
 pub Counts-then : (replies : List Reply) (reply : Reply) (w0 w1 w2 : World) → Counts replies w0 w1
     → Counts (reply ∷ []) w1 w2 → Counts (replies ++ reply ∷ []) w0 w2
 Counts-then replies reply w0 w1 w2 first next = record {
-  vault = RoseBy-push 502 replies reply w0.vault.faults w1.vault.faults w2.vault.faults first.vault next.vault;
-  keeper = RoseBy-push 504 replies reply w0.keeper.faults w1.keeper.faults w2.keeper.faults first.keeper next.keeper;
+  vault = RoseBy-push (status_of Vault) replies reply w0.vault.faults w1.vault.faults w2.vault.faults first.vault next.vault;
+  keeper = RoseBy-push (status_of Keeper) replies reply w0.keeper.faults w1.keeper.faults w2.keeper.faults first.keeper next.keeper;
 } where
   RoseBy-push : (status : ℕ) (replies : List Reply) (reply : Reply) (x y z : ℕ) → RoseBy (count_status status replies) x y
       → RoseBy (count_status status (reply ∷ [])) y z → RoseBy (count_status status (replies ++ reply ∷ [])) x z
@@ -208,8 +210,8 @@ pub Progress-Stops-refusal : (start : State) (input rest : List ℕ) (n : ℕ) (
 Progress-Stops-refusal start input rest n sink0 sink1 w0 w1 short progress ends = (
   progress.replies,
   progress.written,
-  subst (λ (k : ℕ). Answered start input (unframeable frame_refusal) k progress.replies w0 w1) (sym progress.counted)
-      (Serves-Answered start input rest (unframeable frame_refusal) progress.replies w0 w1 short progress.serves
+  subst (λ (k : ℕ). Answered start input (unframeable (refusal Frame)) k progress.replies w0 w1) (sym progress.counted)
+      (Serves-Answered start input rest (unframeable (refusal Frame)) progress.replies w0 w1 short progress.serves
       (ends.0, ends.1, refl)),
 )
 
@@ -291,14 +293,14 @@ Progress-Stops start input rest n AtMemory sink0 sink1 sink2 w0 w1 w2 short prog
 
 -- An input that is too long has no requests, and ends by its refusal.
 pub Answered-too-long : (start : State) (input : List ℕ) (w : World) → Keeps w.library start
-    → input_limit < length input → Answered start input (unframeable size_refusal) 0 [] w w
+    → input_limit < length input → Answered start input (unframeable (refusal Size)) 0 [] w w
 Answered-too-long start input w keeps long =
-    let reads : RequestsOf input [] (unframeable size_refusal) = inr (long, refl, refl) in
+    let reads : RequestsOf input [] (unframeable (refusal Size)) = inr (long, refl, refl) in
     record {
       requests = [];
       state = start;
       reads = reads;
-      only = λ others other x. RequestsOf-unique input others [] other (unframeable size_refusal) x reads;
+      only = λ others other x. RequestsOf-unique input others [] other (unframeable (refusal Size)) x reads;
       answers = refl;
       counted = refl;
       leads = Leads-same start w keeps;

@@ -6,10 +6,12 @@ use Rattle.lib_base.specs.Faults.{Rose, CountsFault}
 use Rattle.keeper_store.specs.Blobs.{OthersKept}
 use Rattle.keeper_store.specs.Goes.{Goes}
 use Rattle.library_model.specs.declared.messages.Reply.{Reply}
+use Rattle.library_model.specs.declared.refusals.Refusal.TheVariants as cause
 use Rattle.library_model.specs.Asked.{Asked, IsQuestion}
 use Rattle.library_model.specs.Framing.{Begins, BeginWith, BeginNoRequest, RequestsOf, End, ended, unframeable, output, input_limit}
 use Rattle.library_model.specs.Machine.{Verdict, Answer, Answers, AnswersBy, as_decided, without_memory, count_status}
-use Rattle.library_model.specs.Replies.{spelled, spelled_all, memory_refusal, frame_refusal}
+use Rattle.library_model.specs.Refusals.{status_of}
+use Rattle.library_model.specs.Replies.{spelled, spelled_all, refusal}
 use Rattle.library_model.specs.Stands.{tables_of, HoldsFiles}
 use Rattle.library_model.specs.State.{State}
 use Rattle.catalogue_core.specs.Kept.{Keeps}
@@ -36,10 +38,10 @@ pub record Leads (s next : State) (before now : World) : Type 0 where
   pub rows : Goes (λ old new. old ≡ tables_of s → new ≡ tables_of next) before.keeper.tables now.keeper.tables
   pub files : Goes (λ old new. HoldsFiles old s.recordings → HoldsFiles new next.recordings) before.vault.blobs now.vault.blobs
 
--- Each reply 502 is one by which the vault's count of faults rose, and each 504 one by which the keeper's did.
+-- Each reply `Vault` is one by which the vault's count of faults rose, and each `Keeper` one by which the keeper's did.
 pub record Counts (replies : List Reply) (before now : World) : Type 0 where
-  pub vault : RoseBy (count_status 502 replies) before.vault.faults now.vault.faults
-  pub keeper : RoseBy (count_status 504 replies) before.keeper.faults now.keeper.faults
+  pub vault : RoseBy (count_status (status_of cause.Vault) replies) before.vault.faults now.vault.faults
+  pub keeper : RoseBy (count_status (status_of cause.Keeper) replies) before.keeper.faults now.keeper.faults
 
 -- a request was answered as it is decided, or memory was wanting
 abbrev pub IsSettled : State → Asked → Reply → State → Type 0
@@ -82,7 +84,7 @@ pub record Serves (start : State) (bytes rest : List ℕ) (replies : List Reply)
 -- the reply, or that to want of memory
 abbrev pub reply_given : Option Reply → Reply
 reply_given (Some reply) = reply
-reply_given None = memory_refusal
+reply_given None = refusal cause.Memory
 
 -- a request was answered, and its reply was written
 pub record Replied (s : State) (request : Asked) (sink_before sink_now : SinkView) (before now : World) : Type 0 where
@@ -185,7 +187,7 @@ Stops start input AtEnd answered sink_before sink_now before now =
     (replies : List Reply) × Appends sink_before.written sink_now.written (spelled_all replies) × Answered start input ended answered replies before now
 Stops start input AtRefusal answered sink_before sink_now before now =
     (replies : List Reply) × Appends sink_before.written sink_now.written (spelled_all replies)
-    × Answered start input (unframeable frame_refusal) answered replies before now
+    × Answered start input (unframeable (refusal cause.Frame)) answered replies before now
 Stops start input AtSinkFault answered sink_before sink_now before now = BreaksOff start input answered sink_before sink_now before now
 Stops start input AtMemory answered sink_before sink_now before now = BreaksOff start input answered sink_before sink_now before now
 
@@ -206,8 +208,8 @@ EndsAfter AtEnd read.Fault how sink_before sink_now = (how ≡ SourceFault) × (
 EndsAfter AtEnd read.End how sink_before sink_now = (how ≡ Ended) × (sink_now ≡ sink_before)
 EndsAfter AtEnd read.Full how sink_before sink_now = (how ≡ Ended) × (sink_now ≡ sink_before)
 EndsAfter AtRefusal read.Fault how sink_before sink_now = (how ≡ SourceFault) × (sink_now ≡ sink_before)
-EndsAfter AtRefusal read.End how sink_before sink_now = EndsBy how (spelled true frame_refusal) sink_before sink_now
-EndsAfter AtRefusal read.Full how sink_before sink_now = EndsBy how (spelled true frame_refusal) sink_before sink_now
+EndsAfter AtRefusal read.End how sink_before sink_now = EndsBy how (spelled true (refusal cause.Frame)) sink_before sink_now
+EndsAfter AtRefusal read.Full how sink_before sink_now = EndsBy how (spelled true (refusal cause.Frame)) sink_before sink_now
 
 -- What a session does that ends so, by what its source and its sink told before and now.
 abbrev pub Session : State → How → ℕ → SourceView → SourceView → SinkView → SinkView → World → World → Type 0

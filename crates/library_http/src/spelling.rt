@@ -1,7 +1,8 @@
 //! Replies as bytes.
 ghost use Rattle.std.specs.Prelude.{◌≡◌, IfOk, false, true, string_bytes};
 ghost use Rattle.library_model.specs.Replies as replies;
-ghost use Rattle.library_model.specs.Replies.{frame_refusal, memory_refusal, size_refusal, spelled, spelled_head};
+ghost use Rattle.library_model.specs.Replies.{refusal, spelled, spelled_head};
+ghost use Rattle.library_model.specs.declared.refusals.Refusal.TheVariants as cause;
 
 use lib_base::Memory;
 use library_model::{BodyKind, Reply};
@@ -30,21 +31,21 @@ pub fn spell(alloc: Global, reply: &Reply, closes: bool) -> Result<Vec<u8>, Memo
 
 /// The bytes of the reply to want of memory, after which the connection stays. They take no memory.
 pub fn memory_reply() -> &'static [u8]
-    ensures { result.now ≡ spelled false memory_refusal }
+    ensures { result.now ≡ spelled false (refusal cause.Memory) }
 {
     MEMORY_REPLY
 }
 
 /// The bytes of the refusal of what no request begins. They take no memory.
 pub fn frame_reply() -> &'static [u8]
-    ensures { result.now ≡ spelled true frame_refusal }
+    ensures { result.now ≡ spelled true (refusal cause.Frame) }
 {
     FRAME_REPLY
 }
 
 /// The bytes of the refusal of an input that is too long. They take no memory.
 pub fn size_reply() -> &'static [u8]
-    ensures { result.now ≡ spelled true size_refusal }
+    ensures { result.now ≡ spelled true (refusal cause.Size) }
 {
     SIZE_REPLY
 }

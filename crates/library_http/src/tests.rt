@@ -120,18 +120,17 @@ fn reply_of(alloc: Global, status: u16, body: &str) -> Result<Reply, Memory> {
 
 #[test]
 fn spells(rt: HostRuntime) -> Result<(), Fail> {
-    let body = "{\"frames\":5,\"id\":1,\"sample_peak\":12345}";
-    let created = reply_of(rt.alloc(), 201, body)?;
+    let refused = reply_of(rt.alloc(), 409, "{\"error\":\"ids\"}")?;
     let stays =
-        "HTTP/1.1 201 Created\r\nContent-Type: application/json\r\nContent-Length: 39\r\n\r\n{\"frames\":5,\"id\":1,\"sample_peak\":12345}";
+        "HTTP/1.1 409 Conflict\r\nContent-Type: application/json\r\nContent-Length: 15\r\n\r\n{\"error\":\"ids\"}";
     let closes =
-        "HTTP/1.1 201 Created\r\nContent-Type: application/json\r\nContent-Length: 39\r\nConnection: close\r\n\r\n{\"frames\":5,\"id\":1,\"sample_peak\":12345}";
+        "HTTP/1.1 409 Conflict\r\nContent-Type: application/json\r\nContent-Length: 15\r\nConnection: close\r\n\r\n{\"error\":\"ids\"}";
     assert_eq!(rt;
-        spell(rt.alloc(), &created, false)?.as_slice(),
+        spell(rt.alloc(), &refused, false)?.as_slice(),
         stays.as_bytes()
     );
     assert_eq!(rt;
-        spell(rt.alloc(), &created, true)?.as_slice(),
+        spell(rt.alloc(), &refused, true)?.as_slice(),
         closes.as_bytes()
     );
     let memory = reply_of(rt.alloc(), 503, "{\"error\":\"memory\"}")?;

@@ -14,7 +14,8 @@ use Rattle.library_model.specs.Asked.{Asked, change, question}
 use Rattle.library_model.specs.Framing.{BeginsImport, BeginsQuestion, id_asked, Begins, BeginWith, EndsAs, End, ended, unframeable, RequestsOf, body_length}
 use Rattle.library_model.proofs.Measuring.{Finds_unique}
 use Rattle.library_model.specs.Machine.{Decides, DecidesCommand, Verdict, stays, accepts, verdict_reply, import_verdict, recording_reply, new_recording, imported}
-use Rattle.library_model.specs.Replies.{ids_refusal}
+use Rattle.library_model.specs.Replies.{refusal}
+use Rattle.library_model.specs.declared.refusals.Refusal.TheVariants.{Ids}
 use Rattle.library_model.specs.State.{State, numbers_end}
 
 -- Lists with equally long fronts are equal only where their fronts and their rests are.
@@ -177,5 +178,5 @@ pub import_granted : (s : State) (file : List ℕ) (sound : Pcm) (summary : Summ
 import_granted s file sound summary request verdict is finds left decides =
     let command = subst (λ (c : Command). DecidesCommand s c verdict) is decides in
     let granted = command.2 ∙ ap (import_verdict s file) (Finds_unique file command.0 (measured sound summary) command.1 finds)
-    ∙ ap (λ b. if b then stays ids_refusal else accepts (recording_reply 201 (new_recording s file sound summary)) (imported s file sound summary)) left in
+    ∙ ap (λ b. if b then stays (refusal Ids) else accepts (recording_reply 201 (new_recording s file sound summary)) (imported s file sound summary)) left in
     ap (λ (v : Verdict). (verdict_reply v).status) granted

@@ -22,11 +22,12 @@ use Rattle.sound_model.proofs.LevelLaws.{level_from_root}
 use Rattle.sound_model.proofs.LevelTable.{later_places_pass}
 use Rattle.library_model.specs.Findings.{Finds, measured, broken_by}
 use Rattle.library_model.specs.declared.messages.Command.TheVariants.{Import}
+use Rattle.library_model.specs.declared.refusals.Refusal.TheVariants.{Frame, Size, NoRecording, Vault, Keeper, Memory}
 use Rattle.library_model.specs.Asked.{change, question}
 use Rattle.library_model.specs.declared.messages.Question.TheVariants as about
 use Rattle.library_model.specs.Framing.{BeginsImport, is_named, only_length, has_slash, id_asked, RequestsOf, ended}
 use Rattle.library_model.specs.Machine.{recording_reply, import_verdict, imported, question_reply, recording_of, accepts, stays}
-use Rattle.library_model.specs.Replies.{json, spelled, format_refusal, frame_refusal, size_refusal, no_recording_refusal, memory_refusal}
+use Rattle.library_model.specs.Replies.{json, spelled, format_refusal, refusal}
 use Rattle.library_model.specs.Stands.{recording_row}
 use Rattle.library_model.specs.State.{Recording, State, IsGiven, IsValid, empty_state}
 
@@ -110,36 +111,44 @@ unfolding digits
 spelled-format_refusal = refl
 
 -- The refusal of bytes that begin no request, after which the connection closes.
-pub spelled-frame_refusal : spelled true frame_refusal
+pub spelled-frame : spelled true (refusal Frame)
     ≡ codes "HTTP/1.1 400 Bad Request" ++ 13 ∷ 10 ∷ codes "Content-Type: application/json"
     ++ 13 ∷ 10 ∷ codes "Content-Length: 17" ++ 13 ∷ 10 ∷ codes "Connection: close"
     ++ 13 ∷ 10 ∷ 13 ∷ 10 ∷ codes "{\"error\":\"frame\"}"
 unfolding digits
-spelled-frame_refusal = refl
+spelled-frame = refl
 
 -- The refusal of an input that is too long, after which the connection closes.
-pub spelled-size_refusal : spelled true size_refusal
+pub spelled-size : spelled true (refusal Size)
     ≡ codes "HTTP/1.1 413 Content Too Large" ++ 13 ∷ 10 ∷ codes "Content-Type: application/json"
     ++ 13 ∷ 10 ∷ codes "Content-Length: 16" ++ 13 ∷ 10 ∷ codes "Connection: close"
     ++ 13 ∷ 10 ∷ 13 ∷ 10 ∷ codes "{\"error\":\"size\"}"
 unfolding digits
-spelled-size_refusal = refl
+spelled-size = refl
 
 -- The refusal of a question after a recording that is not there.
-pub spelled-no_recording_refusal : spelled false no_recording_refusal
+pub spelled-no_recording : spelled false (refusal NoRecording)
     ≡ codes "HTTP/1.1 404 Not Found" ++ 13 ∷ 10 ∷ codes "Content-Type: application/json"
     ++ 13 ∷ 10 ∷ codes "Content-Length: 24"
     ++ 13 ∷ 10 ∷ 13 ∷ 10 ∷ codes "{\"error\":\"no-recording\"}"
 unfolding digits
-spelled-no_recording_refusal = refl
+spelled-no_recording = refl
 
 -- The refusal for want of memory.
-pub spelled-memory_refusal : spelled false memory_refusal
+pub spelled-memory : spelled false (refusal Memory)
     ≡ codes "HTTP/1.1 503 Service Unavailable" ++ 13 ∷ 10 ∷ codes "Content-Type: application/json"
     ++ 13 ∷ 10 ∷ codes "Content-Length: 18"
     ++ 13 ∷ 10 ∷ 13 ∷ 10 ∷ codes "{\"error\":\"memory\"}"
 unfolding digits
-spelled-memory_refusal = refl
+spelled-memory = refl
+
+-- The refusal for a fault of the vault.
+pub refusal-vault : refusal Vault ≡ json 502 (codes "{\"error\":\"vault\"}")
+refusal-vault = refl
+
+-- The refusal for a fault of the keeper.
+pub refusal-keeper : refusal Keeper ≡ json 504 (codes "{\"error\":\"keeper\"}")
+refusal-keeper = refl
 
 -- ---- header lines
 

@@ -9,8 +9,9 @@ use Rattle.httparse.specs.Spans.{name_and_value}
 use Rattle.library_model.specs.declared.messages.Command.TheVariants.{Import}
 use Rattle.library_model.specs.declared.messages.Question.TheVariants as about
 use Rattle.library_model.specs.declared.messages.Reply.{Reply}
+use Rattle.library_model.specs.declared.refusals.Refusal.TheVariants.{Frame, Size}
 use Rattle.library_model.specs.Asked.{Asked, change, question}
-use Rattle.library_model.specs.Replies.{frame_refusal, size_refusal, spelled, spelled_all}
+use Rattle.library_model.specs.Replies.{refusal, spelled, spelled_all}
 use Rattle.library_model.specs.State.{numbers_end}
 
 -- the greatest length of an input, in bytes
@@ -112,10 +113,10 @@ output replies end = spelled_all replies ++ ending end
 -- what is left after the requests ends them so
 abbrev pub EndsAs : List ℕ → End → Type 0
 EndsAs rest ended = rest ≡ []
-EndsAs rest (unframeable reply) = (rest ≢ []) × BeginNoRequest rest × (reply ≡ frame_refusal)
+EndsAs rest (unframeable reply) = (rest ≢ []) × BeginNoRequest rest × (reply ≡ refusal Frame)
 
 -- The input is these requests, and ends so. An input past the limit is refused alone.
 abbrev pub RequestsOf : List ℕ → List Asked → End → Type 0
 RequestsOf input requests end =
     ((length input ≤ input_limit) × ((rest : List ℕ) × BeginWith input requests rest × EndsAs rest end))
-    ⊎ ((input_limit < length input) × (requests ≡ []) × (end ≡ unframeable size_refusal))
+    ⊎ ((input_limit < length input) × (requests ≡ []) × (end ≡ unframeable (refusal Size)))

@@ -2,6 +2,7 @@ pub mod Asked
 pub mod Findings
 pub mod Framing
 pub mod Machine
+pub mod Refusals
 pub mod Replies
 pub mod Stands
 pub mod State

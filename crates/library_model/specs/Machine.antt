@@ -9,9 +9,10 @@ use Rattle.library_model.specs.declared.messages.Command.TheVariants.{Import}
 use Rattle.library_model.specs.declared.messages.Question.{Question}
 use Rattle.library_model.specs.declared.messages.Question.TheVariants as about
 use Rattle.library_model.specs.declared.messages.Reply.{Reply}
+use Rattle.library_model.specs.declared.refusals.Refusal.TheVariants.{NoRecording, Ids, Vault, Keeper, Memory}
 use Rattle.library_model.specs.Asked.{Asked, change, question}
 use Rattle.library_model.specs.Findings.{Finding, Finds, measured, broken_by}
-use Rattle.library_model.specs.Replies.{json, recording_text, format_refusal, ids_refusal, no_recording_refusal, vault_refusal, memory_refusal, keeper_refusal}
+use Rattle.library_model.specs.Replies.{json, recording_text, format_refusal, refusal}
 use Rattle.library_model.specs.State.{Recording, State, numbers_end, recording_before}
 
 -- a request is answered and the state stays, or it is accepted with a reply and the state that it leads to
@@ -40,7 +41,7 @@ abbrev pub import_verdict : State → List ℕ → Finding → Verdict
 import_verdict s file (broken_by rule place) = stays (format_refusal rule place)
 import_verdict s file (measured sound summary) =
     if nat_le numbers_end s.next_recording || nat_le numbers_end s.next_take
-    then stays ids_refusal
+    then stays (refusal Ids)
     else accepts (recording_reply 201 (new_recording s file sound summary)) (imported s file sound summary)
 
 -- the verdict on a command, by what its file is found to be
@@ -54,7 +55,7 @@ recording_of id recordings = find (λ (r : Recording). r.id == id) recordings
 -- what is replied about what was looked for
 abbrev pub found_reply : Option Recording → Reply
 found_reply (Some r) = recording_reply 200 r
-found_reply None = no_recording_refusal
+found_reply None = refusal NoRecording
 
 -- what is replied to a question
 abbrev pub question_reply : State → Question → Reply
@@ -92,11 +93,11 @@ pub data Way : Type 0 where
 abbrev pub AnswersBy : Way → State → Asked → Reply → State → Type 0
 AnswersBy (as_decided verdict) s request reply next =
     Decides s request verdict × (reply ≡ verdict_reply verdict) × (next ≡ state_after s verdict)
-AnswersBy without_memory s request reply next = (reply ≡ memory_refusal) × (next ≡ s)
+AnswersBy without_memory s request reply next = (reply ≡ refusal Memory) × (next ≡ s)
 AnswersBy (vault_failed verdict) s request reply next =
-    Decides s request verdict × IsAccepted verdict × (reply ≡ vault_refusal) × (next ≡ s)
+    Decides s request verdict × IsAccepted verdict × (reply ≡ refusal Vault) × (next ≡ s)
 AnswersBy (keeper_failed verdict) s request reply next =
-    Decides s request verdict × IsAccepted verdict × (reply ≡ keeper_refusal) × (next ≡ s)
+    Decides s request verdict × IsAccepted verdict × (reply ≡ refusal Keeper) × (next ≡ s)
 
 -- From s, the library may answer the request with that reply and go on to next.
 pub record Answer (s : State) (request : Asked) (reply : Reply) (next : State) : Type 0 where

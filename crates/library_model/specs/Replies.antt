@@ -9,6 +9,9 @@ use Rattle.sound_model.specs.Texts.{peak_text}
 use Rattle.library_model.specs.declared.messages.BodyKind.{BodyKind}
 use Rattle.library_model.specs.declared.messages.BodyKind.TheVariants.{Json, Csv, Wave, Flac}
 use Rattle.library_model.specs.declared.messages.Reply.{Reply}
+use Rattle.library_model.specs.declared.refusals.Refusal.{Refusal}
+use Rattle.library_model.specs.declared.refusals.Refusal.TheVariants.{Format}
+use Rattle.library_model.specs.Refusals.{status_of, word_of}
 
 -- a line of that text
 abbrev pub line : List ℕ → List ℕ
@@ -63,42 +66,15 @@ spelled_all (reply ∷ replies) = spelled false reply ++ spelled_all replies
 abbrev pub json : ℕ → List ℕ → Reply
 json status body = record { status = status; kind = Json; body = body }
 
--- a refusal that is named by a word
-abbrev pub refusal : ℕ → List ℕ → Reply
-refusal status word = json status (codes "{\"error\":\"" ++ word ++ codes "\"}")
+-- a refusal: its status, and its word as JSON
+abbrev pub refusal : Refusal → Reply
+refusal cause = json (status_of cause) (codes "{\"error\":\"" ++ word_of cause ++ codes "\"}")
 
--- bytes that begin no request
-abbrev pub frame_refusal : Reply
-frame_refusal = refusal 400 (codes "frame")
-
--- an input that is too long
-abbrev pub size_refusal : Reply
-size_refusal = refusal 413 (codes "size")
-
--- no recording has the id that is asked for
-abbrev pub no_recording_refusal : Reply
-no_recording_refusal = refusal 404 (codes "no-recording")
-
--- no number is left for a new recording
-abbrev pub ids_refusal : Reply
-ids_refusal = refusal 409 (codes "ids")
-
--- the vault counted a fault
-abbrev pub vault_refusal : Reply
-vault_refusal = refusal 502 (codes "vault")
-
--- want of memory
-abbrev pub memory_refusal : Reply
-memory_refusal = refusal 503 (codes "memory")
-
--- the keeper counted a fault
-abbrev pub keeper_refusal : Reply
-keeper_refusal = refusal 504 (codes "keeper")
-
--- a file breaks a rule at a place
+-- the refusal of a file that breaks a rule at a place
 abbrev pub format_refusal : Rule → ℕ → Reply
 format_refusal rule place =
-    json 422 (codes "{\"error\":\"format\",\"place\":" ++ decimal place ++ codes ",\"rule\":\"" ++ rule_text rule ++ codes "\"}")
+    json (status_of Format) (codes "{\"error\":\"" ++ word_of Format
+    ++ codes "\",\"place\":" ++ decimal place ++ codes ",\"rule\":\"" ++ rule_text rule ++ codes "\"}")
 
 -- a level as it is answered, in hundredths: its sign and its digits, or null where it is absent
 abbrev pub level_text : Option ℤ → List ℕ

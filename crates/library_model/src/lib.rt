@@ -2,9 +2,11 @@
 //! answers one, the bytes that ask and the bytes that reply, and what tables and blobs stand for.
 //!
 //! The definitions stand in `specs/`, and hold no algorithm. Here stand the plain types that
-//! definitions and code share.
+//! definitions and code share, and the table of refusals, which both read.
 #![tactic(auto)]
 
 mod messages;
+mod refusals;
 
 pub use messages::{BodyKind, Command, Question, Reply, Request};
+pub use refusals::Refusal;

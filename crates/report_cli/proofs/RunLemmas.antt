@@ -7,7 +7,8 @@ use Rattle.keeper_store.specs.declared.contents.Tables.{Tables}
 use Rattle.library_model.specs.declared.messages.Reply.{Reply}
 use Rattle.library_model.specs.Asked.{Asked}
 use Rattle.library_model.specs.Framing.{End, ended, unframeable, RequestsOf, input_limit}
-use Rattle.library_model.specs.Replies.{size_refusal}
+use Rattle.library_model.specs.Replies as replies
+use Rattle.library_model.specs.declared.refusals.Refusal.TheVariants.{Size}
 use Rattle.library_model.specs.State.{empty_state}
 use Rattle.library_model.proofs.Readings.{RequestsOf-unique}
 use Rattle.catalogue_core.specs.declared.libraries.BadRow.{BadRow}
@@ -114,7 +115,7 @@ unframeable_end input left taken requests reply took whole (inl reads) = (
 unframeable_end input left taken requests reply took whole (inr long) =
     let most = taken_most input left taken took in
     let longer : input_limit < length input = omega (arith, most, long.0) in
-    ([], size_refusal, inr (longer, refl, refl))
+    ([], replies.refusal Size, inr (longer, refl, refl))
 
 -- what a session that ended so says of the end of the input
 session_end : (how : How) (answered : ℕ) (input : List ℕ) (left text0 text1 : Option (List ℕ)) (w0 w1 : World)
