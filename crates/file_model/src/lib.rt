@@ -2,5 +2,10 @@
 //!
 //! `specs/` says which bytes are a wave of which samples, and what a file reads as: accepted with
 //! its samples, or broken by a rule at a place. `proofs/` checks worked files against the
-//! definitions, and shows that a file reads as one thing only.
+//! definitions, and shows that a file reads as one thing only. The rules have their names here, which
+//! definitions and code share.
 #![tactic(auto)]
+
+mod wave_rules;
+
+pub use wave_rules::WaveRule;

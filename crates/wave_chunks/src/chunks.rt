@@ -8,6 +8,7 @@ ghost use Rattle.wave_chunks.specs.Spans.{AreChunks, IsStored, IsPlaceOf, spans_
 
 use crate::broken;
 use crate::fields::number_at;
+use file_model::WaveRule;
 use lib_base::{Refused, Span};
 use std::alloc::Global;
 
@@ -27,16 +28,16 @@ pub struct Chunk {
 /// The chunks of a file, from byte 12 to the end.
 pub(crate) fn read_chunks(alloc: Global, bytes: &[u8]) -> Result<Vec<Chunk>, Refused>
     requires long { 12 ≤ length bytes.now }
-    requires lower { BreaksNoneBelow bytes.now 4 }
+    requires lower { BreaksNoneBelow bytes.now WaveRule.CutChunk }
     ensures ok { IfOk result (λ chunks. AreChunks bytes.now chunks.items) }
-    ensures passed { OnOk result (BreaksNoneBelow bytes.now 5) }
+    ensures passed { OnOk result (BreaksNoneBelow bytes.now WaveRule.RepeatedChunk) }
     ensures err { IfErr result (λ refused. IsRefusalOf bytes.now refused) }
 {
     let mut chunks = Vec::new(alloc);
     let mut at = FIRST;
     'chunks: while at < bytes.len() {
         let Some(chunk) = chunk_at(bytes, at) else {
-            return Err(broken(4, at));
+            return Err(broken(WaveRule::CutChunk, at));
         };
         chunks.push(chunk)?;
         at = next_head(chunk.content, bytes.len());
