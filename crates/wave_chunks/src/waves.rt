@@ -12,12 +12,10 @@ use crate::fields::{has_part, number_at};
 use crate::format::{Format, read_format};
 use crate::parts::find_parts;
 use file_model::WaveRule;
+use file_model::wave_fields::{BEXT_BYTES, CHUNKS_AT, FORM_AT, SIZE_AT};
 use lib_base::{Refused, Span};
 use std::alloc::Global;
 use std::marker::Model;
-
-/// How many bytes a `bext` content has at least.
-const BEXT: usize = 602;
 
 /// The parts of a wave file.
 #[derive(Debug, Drop)]
@@ -89,8 +87,7 @@ impl Wave {
     }
 }
 
-/// Reads a wave file. What is none is broken by the lowest of the rules of a wave that it breaks, at its
-/// place.
+/// Reads a wave file. What is none is broken by the lowest rule that it breaks, at its place.
 pub fn read(alloc: Global, bytes: &[u8]) -> Result<Wave, Refused>
     ensures ok { IfOk result (λ wave. IsReadOf bytes.now wave) }
     ensures err { IfErr result (λ refused. IsRefusalOf bytes.now refused) }
@@ -112,21 +109,21 @@ pub fn read(alloc: Global, bytes: &[u8]) -> Result<Wave, Refused>
     })
 }
 
-/// Tries the first 12 bytes.
+/// Tries the bytes before the chunks.
 fn check_head(bytes: &[u8]) -> Result<(), Refused>
     ensures headed { OnOk result (IsHeaded bytes.now) }
     ensures passed { OnOk result (BreaksNoneBelow bytes.now WaveRule.CutChunk) }
     ensures err { IfErr result (λ refused. IsRefusalOf bytes.now refused) }
 {
-    if bytes.len() < 12 || !has_part(bytes, 0, b"RIFF".as_slice()) {
+    if bytes.len() < CHUNKS_AT || !has_part(bytes, 0, b"RIFF".as_slice()) {
         return Err(broken(WaveRule::NoRiff, 0));
     }
-    if !has_part(bytes, 8, b"WAVE".as_slice()) {
-        return Err(broken(WaveRule::OtherForm, 8));
+    if !has_part(bytes, FORM_AT, b"WAVE".as_slice()) {
+        return Err(broken(WaveRule::OtherForm, FORM_AT));
     }
-    let counted = u64::from(number_at(bytes, 4)) + 8;
+    let counted = u64::from(number_at(bytes, SIZE_AT)) + FORM_AT as u64;
     if counted.abs_diff(bytes.len() as u64) > 1 {
-        return Err(broken(WaveRule::OtherSize, 4));
+        return Err(broken(WaveRule::OtherSize, SIZE_AT));
     }
     Ok(())
 }
@@ -174,7 +171,7 @@ fn check_bext(bytes: &[u8], found: Option<Span>) -> Result<(), Refused>
     let Some(span) = found else {
         return Ok(());
     };
-    if length_of(span) < BEXT {
+    if length_of(span) < BEXT_BYTES {
         return Err(broken(WaveRule::ShortBext, head_before(span)));
     }
     Ok(())

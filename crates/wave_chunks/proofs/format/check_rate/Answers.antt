@@ -15,8 +15,8 @@ returns-clause-passed c =
 pub overflow_add-at : goal.overflow_add-at
 overflow_add-at c = let inside = c.requires.is_content.inside in let long = c.requires.long.long in omega (arith, inside, long)
 
-pub returns-then-number_at-ne-RATE-clause-err : goal.returns-then-number_at-ne-RATE-clause-err
-returns-then-number_at-ne-RATE-clause-err c =
+pub returns-then-number_at-ne-SAMPLE_RATE-clause-err : goal.returns-then-number_at-ne-SAMPLE_RATE-clause-err
+returns-then-number_at-ne-SAMPLE_RATE-clause-err c =
     let bytes = c.args.bytes.now in let content = c.args.content.now in
     let other : HasOtherRate content = search rules in
     c.broken.ensures bytes c.requires.lower (format_broken bytes content c.args.at HasOtherRate 4 _ c.requires.is_content other refl)
