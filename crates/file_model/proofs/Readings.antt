@@ -1,25 +1,22 @@
 -- A file reads as one thing.
 use Rattle.lib_base.specs.Sounds.{part}
 use Rattle.file_model.specs.Wave.{IsNear}
-use Rattle.std.proofs.Common.{◌≡◌, ◌≢◌, ◌<◌, ◌+◌, ◌-◌, ◌⊎◌, inl, inr, ℕ, zero, suc, Bool, true, false, List, [], length, drop, ap, ◌∙◌, sym, subst, arith}
+use Rattle.std.proofs.Common.{◌≡◌, ◌≢◌, ◌<◌, ◌+◌, ◌-◌, ◌⊎◌, inl, inr, ℕ, List, [], ◌∷◌, get_or, length, drop, refl, ap, ◌∙◌, sym, subst, arith}
 use Rattle.std.specs.Prelude.{codes, Option, Some}
 use Rattle.std.proofs.lemmas.Bool.{cases_lt}
 use Rattle.lib_base.specs.declared.outcomes.Rule.{Rule}
-use Rattle.lib_base.specs.declared.outcomes.Rule.TheVariants.{V}
+use Rattle.file_model.specs.declared.wave_rules.WaveRule.{WaveRule}
+use Rattle.file_model.specs.declared.wave_rules.WaveRule.TheVariants.{NoRiff, OtherForm, OtherSize, CutChunk, RepeatedChunk, NoFormat, ShortFormat, OtherFormat, OtherChannels, OtherRate, OtherDepth, OtherAlign, NoData, PartFrame, ShortBext}
 use Rattle.file_model.specs.Chunks.{Chunk, Placed, named, first_repeat, number_at}
 use Rattle.file_model.specs.Format.{IsShortFormat, IsOtherFormat, HasOtherChannels, HasOtherRate, HasOtherDepth, HasOtherAlign}
 use Rattle.file_model.specs.Reading.{Reading, accepted, broken, Reads, IsBroken}
-use Rattle.file_model.specs.Rules.{if◌says◌else◌, IsCutAt, FormatIs, HasPartFrame, HasShortBext, ChunksBreak, ChunksOfBreak, Breaks, BreaksNoneBelow}
+use Rattle.file_model.specs.Rules.{rule_of, number_of, IsCutAt, Lacks, OfChunks, FormatIs, HasPartFrame, HasShortBext, Breaks, BreaksNoneBelow}
 use Rattle.file_model.proofs.Spellings.{Begins_unique, chunks_unique}
 use Rattle.file_model.proofs.Waves.{IsWave_unique, one_placed, breaks_nothing}
 
 -- a fact holds at one place at most
 abbrev OnePlace : (ℕ → Type 0) → Type 0
 OnePlace Fact = (p q : ℕ) → Fact p → Fact q → p ≡ q
-
-either : (test : Bool) (A B : ℕ → Type 0) → OnePlace A → OnePlace B → OnePlace (λ place. if test says A place else B place)
-either true A B one other = one
-either false A B one other = other
 
 one_fixed : (Fact : Type 0) (at : ℕ) → OnePlace (λ place. Fact × (place ≡ at))
 one_fixed Fact at p q h k = h.1 ∙ sym k.1
@@ -42,40 +39,88 @@ one_part_frame chunks p q h k = h.5 ∙ ap (λ (samples : Placed). samples.head)
 one_short_bext : (chunks : List Chunk) → OnePlace (HasShortBext chunks)
 one_short_bext chunks p q h k = h.3 ∙ ap (λ (bext : Placed). bext.head) (one_placed _ h.0 k.0 h.1 k.1) ∙ sym k.3
 
-one_of_chunks : (chunks : List Chunk) (end rule : ℕ) → OnePlace (ChunksBreak chunks end rule)
-one_of_chunks chunks end rule =
-    either _ _ _ (one_some (first_repeat chunks))
-    (either _ _ _ (one_fixed (named (codes "fmt ") chunks ≡ []) end)
-    (either _ _ _ (one_format IsShortFormat 0 chunks)
-    (either _ _ _ (one_format IsOtherFormat 0 chunks)
-    (either _ _ _ (one_format HasOtherChannels 2 chunks)
-    (either _ _ _ (one_format HasOtherRate 4 chunks)
-    (either _ _ _ (one_format HasOtherDepth 14 chunks)
-    (either _ _ _ (one_format HasOtherAlign 12 chunks)
-    (either _ _ _ (one_fixed (named (codes "data") chunks ≡ []) end)
-    (either _ _ _ (one_part_frame chunks)
-    (either _ _ _ (one_short_bext chunks) (λ p q h k. absurd h)))))))))))
+-- a file has one list of chunks, so what holds of them at one place holds of it at one
+one_of_chunks : (bytes : List ℕ) (Fact : List Chunk → ℕ → Type 0) → ((chunks : List Chunk) → OnePlace (Fact chunks))
+    → OnePlace (λ place. OfChunks bytes (λ chunks. Fact chunks place))
+one_of_chunks bytes Fact one p q h k =
+    one h.0 p q h.2 (subst (λ (chunks : List Chunk). Fact chunks q) (chunks_unique k.0 h.0 (drop 12 bytes) k.1 h.1) k.2)
+
+one_wrong : (bytes : List ℕ) (Wrong : List ℕ → Type 0) (offset : ℕ) → OnePlace (λ place. OfChunks bytes (λ chunks. FormatIs Wrong offset chunks place))
+one_wrong bytes Wrong offset = one_of_chunks bytes (FormatIs Wrong offset) (one_format Wrong offset)
+
+one_lacking : (bytes name : List ℕ) → OnePlace (λ place. OfChunks bytes (λ chunks. Lacks name chunks (length bytes) place))
+one_lacking bytes name = one_of_chunks bytes (λ chunks. Lacks name chunks (length bytes)) (λ chunks. one_fixed (named name chunks ≡ []) (length bytes))
 
 -- a rule is broken at one place at most
-pub one_place : (bytes : List ℕ) (rule : ℕ) → OnePlace (Breaks bytes rule)
-one_place bytes rule =
-    either _ _ _ (one_fixed ((length bytes < 12) ⊎ (part bytes 0 4 ≢ codes "RIFF")) 0)
-    (either _ _ _ (one_fixed (part bytes 8 4 ≢ codes "WAVE") 8)
-    (either _ _ _ (one_fixed (¬ IsNear (number_at bytes 4) (length bytes)) 4)
-    (either _ _ _ (one_cut bytes)
-    (λ (p q : ℕ) (h : ChunksOfBreak bytes rule p) (k : ChunksOfBreak bytes rule q). one_of_chunks h.0 (length bytes) rule p q h.2
-    (subst (λ (chunks : List Chunk). ChunksBreak chunks (length bytes) rule q) (chunks_unique k.0 h.0 (drop 12 bytes) k.1 h.1) k.2)))))
+pub one_place : (bytes : List ℕ) (rule : WaveRule) → OnePlace (Breaks bytes rule)
+one_place bytes NoRiff = one_fixed ((length bytes < 12) ⊎ (part bytes 0 4 ≢ codes "RIFF")) 0
+one_place bytes OtherForm = one_fixed (part bytes 8 4 ≢ codes "WAVE") 8
+one_place bytes OtherSize = one_fixed (¬ IsNear (number_at bytes 4) (length bytes)) 4
+one_place bytes CutChunk = one_cut bytes
+one_place bytes RepeatedChunk = one_of_chunks bytes (λ chunks place. first_repeat chunks ≡ Some place) (λ chunks. one_some (first_repeat chunks))
+one_place bytes NoFormat = one_lacking bytes (codes "fmt ")
+one_place bytes ShortFormat = one_wrong bytes IsShortFormat 0
+one_place bytes OtherFormat = one_wrong bytes IsOtherFormat 0
+one_place bytes OtherChannels = one_wrong bytes HasOtherChannels 2
+one_place bytes OtherRate = one_wrong bytes HasOtherRate 4
+one_place bytes OtherDepth = one_wrong bytes HasOtherDepth 14
+one_place bytes OtherAlign = one_wrong bytes HasOtherAlign 12
+one_place bytes NoData = one_lacking bytes (codes "data")
+one_place bytes PartFrame = one_of_chunks bytes HasPartFrame one_part_frame
+one_place bytes ShortBext = one_of_chunks bytes HasShortBext one_short_bext
+
+-- ---- rules and their numbers
+
+-- the rules in the order of their numbers
+in_order : List WaveRule
+in_order =
+    NoRiff ∷ OtherForm ∷ OtherSize ∷ CutChunk ∷ RepeatedChunk ∷ NoFormat ∷ ShortFormat ∷ OtherFormat ∷ OtherChannels ∷ OtherRate ∷ OtherDepth
+    ∷ OtherAlign ∷ NoData ∷ PartFrame ∷ ShortBext ∷ []
+
+-- the rule of a number
+rule_at : ℕ → WaveRule
+rule_at number = get_or in_order (number - 1) NoRiff
+
+rule_at-number_of : (rule : WaveRule) → rule_at (number_of rule) ≡ rule
+unfolding in_order rule_at
+rule_at-number_of NoRiff = refl
+rule_at-number_of OtherForm = refl
+rule_at-number_of OtherSize = refl
+rule_at-number_of CutChunk = refl
+rule_at-number_of RepeatedChunk = refl
+rule_at-number_of NoFormat = refl
+rule_at-number_of ShortFormat = refl
+rule_at-number_of OtherFormat = refl
+rule_at-number_of OtherChannels = refl
+rule_at-number_of OtherRate = refl
+rule_at-number_of OtherDepth = refl
+rule_at-number_of OtherAlign = refl
+rule_at-number_of NoData = refl
+rule_at-number_of PartFrame = refl
+rule_at-number_of ShortBext = refl
+
+-- no two rules have one number
+pub same_rule : (one other : WaveRule) → number_of one ≡ number_of other → one ≡ other
+same_rule one other same = sym (rule_at-number_of one) ∙ ap rule_at same ∙ rule_at-number_of other
+
+-- numbers begin at 1
+from_1 : (rule : WaveRule) → number_of rule < 1 → ⊥
+unfolding in_order rule_at
+from_1 rule below =
+    let none : number_of rule ≡ 0 = omega (arith, below) in
+    let first : rule ≡ NoRiff = sym (rule_at-number_of rule) ∙ ap rule_at none in
+    let one : number_of rule ≡ 1 = ap number_of first in omega (arith, none, one)
 
 -- bytes that are broken are so by one rule at one place
-pub IsBroken_unique : (bytes : List ℕ) (m n p q : ℕ) → IsBroken bytes m p → IsBroken bytes n q → (m ≡ n) × (p ≡ q)
-IsBroken_unique bytes m n p q one other =
-    elim (cases_lt m n) [
-      | inl lower ↦ absurd (other.lowest m p lower one.breaks)
-      | inr from ↦ elim (cases_lt n m) [
-        | inl lower ↦ absurd (one.lowest n q lower other.breaks)
+pub IsBroken_unique : (bytes : List ℕ) (one other : WaveRule) (p q : ℕ) → IsBroken bytes one p → IsBroken bytes other q → (one ≡ other) × (p ≡ q)
+IsBroken_unique bytes one other p q first again =
+    elim (cases_lt (number_of one) (number_of other)) [
+      | inl lower ↦ absurd (again.lowest one p lower first.breaks)
+      | inr from ↦ elim (cases_lt (number_of other) (number_of one)) [
+        | inl lower ↦ absurd (first.lowest other q lower again.breaks)
         | inr also ↦
-            let same : m ≡ n = omega (arith, from, also) in
-            (same, one_place bytes n p q (subst (λ (rule : ℕ). Breaks bytes rule p) same one.breaks) other.breaks)
+            let same : one ≡ other = same_rule one other (omega (arith, from, also)) in
+            (same, one_place bytes other p q (subst (λ (rule : WaveRule). Breaks bytes rule p) same first.breaks) again.breaks)
       ]
     ]
 
@@ -85,28 +130,27 @@ Reads_unique bytes (accepted xs) (broken rule place) h k = absurd (k.2.no_wave x
 Reads_unique bytes (broken rule place) (accepted ys) h k = absurd (h.2.no_wave ys k)
 Reads_unique bytes (broken rule place) (broken rule' place') h k =
     let same = IsBroken_unique bytes h.0 k.0 place place' h.2 k.2 in
-    let same_rule : rule ≡ rule' = h.1 ∙ ap V same.0 ∙ sym k.1 in
+    let same_rule : rule ≡ rule' = h.1 ∙ ap rule_of same.0 ∙ sym k.1 in
     ap (λ (r : Rule). broken r place) same_rule ∙ ap (broken rule') same.1
 
 -- ---- the rules in turn
 
-pub IsBroken-from : (bytes : List ℕ) (number place : ℕ) → BreaksNoneBelow bytes number → Breaks bytes number place → IsBroken bytes number place
-IsBroken-from bytes number place lower breaks = record {
-  no_wave = λ sound wave. breaks_nothing bytes wave.0 sound number place wave.1 breaks;
+pub IsBroken-from : (bytes : List ℕ) (rule : WaveRule) (place : ℕ) → BreaksNoneBelow bytes rule → Breaks bytes rule place → IsBroken bytes rule place
+IsBroken-from bytes rule place lower breaks = record {
+  no_wave = λ sound wave. breaks_nothing bytes wave.0 sound rule place wave.1 breaks;
   breaks = breaks;
   lowest = lower;
 }
 
-pub none_below_1 : (bytes : List ℕ) → BreaksNoneBelow bytes 1
-none_below_1 bytes zero place below breaks = breaks.2
-none_below_1 bytes (suc lower) place below breaks = omega (arith, below)
+pub none_below_first : (bytes : List ℕ) → BreaksNoneBelow bytes NoRiff
+none_below_first bytes lower place below = absurd (from_1 lower below)
 
-pub none_below_next : (bytes : List ℕ) (number next : ℕ) → next ≡ number + 1 → BreaksNoneBelow bytes number → ((place : ℕ) → Breaks bytes number place → ⊥)
-    → BreaksNoneBelow bytes next
-none_below_next bytes number next is lower right other place below breaks =
-    elim (cases_lt other number) [
+pub none_below_next : (bytes : List ℕ) (rule next : WaveRule) → number_of next ≡ number_of rule + 1 → BreaksNoneBelow bytes rule
+    → ((place : ℕ) → Breaks bytes rule place → ⊥) → BreaksNoneBelow bytes next
+none_below_next bytes rule next is lower right other place below breaks =
+    elim (cases_lt (number_of other) (number_of rule)) [
       | inl less ↦ lower other place less breaks
       | inr from ↦
-          let same : other ≡ number = omega (arith, is, below, from) in
-          right place (subst (λ (rule : ℕ). Breaks bytes rule place) same breaks)
+          let same : other ≡ rule = same_rule other rule (omega (arith, is, below, from)) in
+          right place (subst (λ (r : WaveRule). Breaks bytes r place) same breaks)
     ]

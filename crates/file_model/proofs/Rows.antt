@@ -5,6 +5,7 @@ use Rattle.std.proofs.lemmas.Int.{ints}
 use Rattle.std.proofs.lemmas.List.Elements.{All-nil, All-cons, All-from_recursion}
 use Rattle.lib_base.specs.Sounds.{IsSample}
 use Rattle.file_model.specs.Chunks.{Chunk, IsChunk}
+use Rattle.file_model.specs.declared.wave_rules.WaveRule.TheVariants.{OtherSize, CutChunk, RepeatedChunk, OtherAlign, PartFrame}
 use Rattle.file_model.specs.Pcm.{Pcm}
 use Rattle.file_model.specs.Rules.{Breaks}
 use Rattle.file_model.specs.Wave.{IsWave}
@@ -171,11 +172,11 @@ abbrev two_content : List ℕ
 two_content = 1 ∷ 0 ∷ 2 ∷ 0 ∷ []
 
 -- the size field is 38, two fewer than the bytes behind it
-pub size_is_broken : Breaks (edited 38 2 4 []) 3 4
+pub size_is_broken : Breaks (edited 38 2 4 []) OtherSize 4
 size_is_broken = (λ near. let far = near.1 in omega (arith, far), refl)
 
 -- the `data` chunk says that it has a byte more than there is
-pub cut_is_broken : Breaks (edited 40 2 5 []) 4 36
+pub cut_is_broken : Breaks (edited 40 2 5 []) CutChunk 36
 cut_is_broken = (
   chunk (codes "fmt ") (format_content 1 2) ∷ [],
   codes "data" ++ (5 ∷ 0 ∷ 0 ∷ 0 ∷ two_content),
@@ -186,7 +187,7 @@ cut_is_broken = (
 )
 
 -- an empty `data` chunk behind the first
-pub repeat_is_broken : Breaks (edited 48 2 4 (codes "data" ++ (0 ∷ 0 ∷ 0 ∷ 0 ∷ []))) 5 48
+pub repeat_is_broken : Breaks (edited 48 2 4 (codes "data" ++ (0 ∷ 0 ∷ 0 ∷ 0 ∷ []))) RepeatedChunk 48
 repeat_is_broken = (
   chunk (codes "fmt ") (format_content 1 2) ∷ chunk (codes "data") two_content ∷ chunk (codes "data") [] ∷ [],
   (
@@ -208,7 +209,7 @@ repeat_is_broken = (
 )
 
 -- four bytes a frame, where there are two
-pub align_is_broken : Breaks (edited 40 4 4 []) 12 32
+pub align_is_broken : Breaks (edited 40 4 4 []) OtherAlign 32
 align_is_broken = (
   chunk (codes "fmt ") (format_content 1 4) ∷ chunk (codes "data") two_content ∷ [],
   (
@@ -223,7 +224,7 @@ align_is_broken = (
 )
 
 -- three bytes of data, then a pad byte
-pub frames_are_broken : Breaks (edited 40 2 3 []) 14 36
+pub frames_are_broken : Breaks (edited 40 2 3 []) PartFrame 36
 frames_are_broken = (
   chunk (codes "fmt ") (format_content 1 2) ∷ chunk (codes "data") (1 ∷ 0 ∷ 2 ∷ []) ∷ [],
   (

@@ -7,8 +7,10 @@ use Rattle.lib_base.specs.Sounds.{part, IsSample, IsSound}
 use Rattle.file_model.specs.Channels.{first_channels}
 use Rattle.file_model.specs.Chunks.{Chunk, Placed, Begins, named, second_head, earlier, first_repeat, number_at, four_bytes}
 use Rattle.file_model.specs.Format.{IsFormat, channels_of, depth_of, align_of, IsShortFormat, IsOtherFormat, HasOtherChannels, HasOtherRate, HasOtherDepth, HasOtherAlign}
+use Rattle.file_model.specs.declared.wave_rules.WaveRule.{WaveRule}
+use Rattle.file_model.specs.declared.wave_rules.WaveRule.TheVariants.{NoRiff, OtherForm, OtherSize, CutChunk, RepeatedChunk, NoFormat, ShortFormat, OtherFormat, OtherChannels, OtherRate, OtherDepth, OtherAlign, NoData, PartFrame, ShortBext}
 use Rattle.file_model.specs.Pcm.{Pcm, interleaved}
-use Rattle.file_model.specs.Rules.{if◌says◌else◌, IsNoRiff, IsOtherForm, HasOtherSize, Lacks, IsCutAt, FormatIs, HasPartFrame, HasShortBext, ChunksBreak, ChunksOfBreak, Breaks}
+use Rattle.file_model.specs.Rules.{OfChunks, Lacks, FormatIs, HasPartFrame, HasShortBext, Breaks}
 use Rattle.file_model.specs.Wave.{IsWave, IsWaveOf, IsNear, AtMostOneBext, sample_bytes}
 use Rattle.file_model.proofs.Interleaving.{channels-interleaved, length-interleaved}
 use Rattle.file_model.specs.Samples.{samples_in}
@@ -129,10 +131,6 @@ IsWave_unique bytes a b one other = (IsWaveOf_unique bytes one.0 other.0 a b one
 
 -- ---- a wave breaks no rule
 
-neither : (test : Bool) (A B : Type 0) → (A → ⊥) → (B → ⊥) → (if test says A else B) → ⊥
-neither true A B not_a not_b h = not_a h
-neither false A B not_a not_b h = not_b h
-
 none_and_one : (found : List Placed) (a : Placed) → found ≡ [] → found ≡ a ∷ [] → ⊥
 none_and_one found a h k = cc
 
@@ -194,32 +192,60 @@ not_short_bext found bext (inl none) h short = none_and_one found bext none h
 not_short_bext found bext (inr (other, is, long)) h short =
     let same = ap (λ (p : Placed). length p.content) (one_placed found bext other h is) in omega (arith, long, short, same)
 
-chunks_right : (bytes : List ℕ) (chunks : List Chunk) (sound : Pcm) (rule place : ℕ) → IsWaveOf bytes chunks sound → ChunksBreak chunks (length bytes) rule place → ⊥
-chunks_right bytes chunks sound rule place wave =
-    let is = wave.is_format in
-    let content = wave.format.content in
-    let right = λ (Wrong : List ℕ → Type 0) (offset : ℕ) (holds : Wrong content → ⊥). format_is_right Wrong offset place chunks wave.format wave.one_format holds in
-    neither _ _ _ (λ (h : first_repeat chunks ≡ Some place). not_some place (first_repeat chunks) (no_repeat_of _ _ _ wave.format wave.data_chunk wave.one_format wave.one_data wave.one_bext) h)
-    (neither _ _ _ (λ (h : Lacks (codes "fmt ") chunks (length bytes) place). none_and_one _ wave.format h.0 wave.one_format)
-    (neither _ _ _ (right IsShortFormat 0 (not_short content _ _ is))
-    (neither _ _ _ (right IsOtherFormat 0 (not_other content _ _ is))
-    (neither _ _ _ (right HasOtherChannels 2 (not_other_channels content _ _ is wave.is_sound.has_channel wave.is_sound.few_channels))
-    (neither _ _ _ (right HasOtherRate 4 (λ other. other is.rate_field))
-    (neither _ _ _ (right HasOtherDepth 14 (not_other_depth content _ _ is))
-    (neither _ _ _ (right HasOtherAlign 12 (not_other_align content _ _ is))
-    (neither _ _ _ (λ (h : Lacks (codes "data") chunks (length bytes) place). none_and_one _ wave.data_chunk h.0 wave.one_data)
-    (neither _ _ _ (λ (h : HasPartFrame chunks place). let same_format = one_placed _ _ _ h.2 wave.one_format in let same_data = one_placed _ _ _ h.3 wave.one_data in
-    h.4 (ap (λ (p : Placed). length p.content % align_of h.0.content) same_data ∙ ap (λ (p : Placed). length wave.data_chunk.content % align_of p.content) same_format
-    ∙ not_part_frame content wave.data_chunk.content sound is wave.samples))
-    (neither _ _ _ (λ (h : HasShortBext chunks place). not_short_bext _ h.0 wave.one_bext h.1 h.2) (λ (h : ⊥). h)))))))))))
+part_frame_is_right : (chunks : List Chunk) (place : ℕ) (format samples : Placed) → named (codes "fmt ") chunks ≡ format ∷ []
+    → named (codes "data") chunks ≡ samples ∷ [] → length samples.content % align_of format.content ≡ 0 → HasPartFrame chunks place → ⊥
+part_frame_is_right chunks place format samples one_format one_data whole (found_format, found_data, is_format, is_data, part, at) =
+    let same_format = one_placed _ _ _ is_format one_format in
+    let same_data = one_placed _ _ _ is_data one_data in
+    part
+    (ap (λ (p : Placed). length p.content % align_of found_format.content) same_data
+    ∙ ap (λ (p : Placed). length samples.content % align_of p.content) same_format ∙ whole)
 
-pub breaks_nothing : (bytes : List ℕ) (chunks : List Chunk) (sound : Pcm) (rule place : ℕ) → IsWaveOf bytes chunks sound → Breaks bytes rule place → ⊥
-breaks_nothing bytes chunks sound rule place wave =
+-- what holds of the chunks of a wave is said of its own chunks
+of_chunks : (bytes : List ℕ) (chunks : List Chunk) (sound : Pcm) (Fact : List Chunk → Type 0) → IsWaveOf bytes chunks sound → OfChunks bytes Fact → Fact chunks
+of_chunks bytes chunks sound Fact wave (found, begins, holds) =
+    subst Fact (chunks_unique found chunks (drop 12 bytes) begins (chunks_of_wave bytes chunks sound wave)) holds
+
+-- the `fmt ` chunk of a wave is not wrong
+format_right : (bytes : List ℕ) (chunks : List Chunk) (sound : Pcm) (Wrong : List ℕ → Type 0) (offset place : ℕ) (wave : IsWaveOf bytes chunks sound)
+    → (Wrong wave.format.content → ⊥) → OfChunks bytes (λ cs. FormatIs Wrong offset cs place) → ⊥
+format_right bytes chunks sound Wrong offset place wave right broken =
+    format_is_right Wrong offset place chunks wave.format wave.one_format right
+    (of_chunks bytes chunks sound (λ (cs : List Chunk). FormatIs Wrong offset cs place) wave broken)
+
+pub breaks_nothing : (bytes : List ℕ) (chunks : List Chunk) (sound : Pcm) (rule : WaveRule) (place : ℕ) → IsWaveOf bytes chunks sound → Breaks bytes rule place → ⊥
+breaks_nothing bytes chunks sound NoRiff place wave broken =
     let head = head_of bytes wave.body wave.size wave.size_fits wave.written in
-    neither _ _ _ (λ (h : IsNoRiff bytes place). elim h.0 [ inl short ↦ let long = head.long in omega (arith, long, short) | inr other ↦ other head.riff ])
-    (neither _ _ _ (λ (h : IsOtherForm bytes place). h.0 head.form)
-    (neither _ _ _ (λ (h : HasOtherSize bytes place). h.0 (subst (λ (n : ℕ). IsNear n (length bytes)) (sym head.number) wave.near))
-    (neither _ _ _ (λ (h : IsCutAt bytes place). not_whole_and_cut h.0 chunks (drop 12 bytes) h.1 h.4 h.3 h.2 (chunks_of_wave bytes chunks sound wave))
-    (λ (h : ChunksOfBreak bytes rule place). chunks_right bytes chunks sound rule place wave
-    (subst (λ (cs : List Chunk). ChunksBreak cs (length bytes) rule place)
-    (chunks_unique h.0 chunks (drop 12 bytes) h.1 (chunks_of_wave bytes chunks sound wave)) h.2)))))
+    elim broken.0 [ inl short ↦ let long = head.long in omega (arith, long, short) | inr other ↦ other head.riff ]
+breaks_nothing bytes chunks sound OtherForm place wave broken = broken.0 (head_of bytes wave.body wave.size wave.size_fits wave.written).form
+breaks_nothing bytes chunks sound OtherSize place wave broken =
+    broken.0
+    (subst (λ (n : ℕ). IsNear n (length bytes)) (sym (head_of bytes wave.body wave.size wave.size_fits wave.written).number) wave.near)
+breaks_nothing bytes chunks sound CutChunk place wave broken =
+    not_whole_and_cut broken.0 chunks (drop 12 bytes) broken.1 broken.4 broken.3 broken.2 (chunks_of_wave bytes chunks sound wave)
+breaks_nothing bytes chunks sound RepeatedChunk place wave broken =
+    not_some place (first_repeat chunks) (no_repeat_of _ _ _ wave.format wave.data_chunk wave.one_format wave.one_data wave.one_bext)
+    (of_chunks bytes chunks sound (λ (cs : List Chunk). first_repeat cs ≡ Some place) wave broken)
+breaks_nothing bytes chunks sound NoFormat place wave broken =
+    none_and_one _ wave.format (of_chunks bytes chunks sound (λ (cs : List Chunk). Lacks (codes "fmt ") cs (length bytes) place) wave broken).0 wave.one_format
+breaks_nothing bytes chunks sound ShortFormat place wave broken =
+    format_right bytes chunks sound IsShortFormat 0 place wave (not_short wave.format.content _ _ wave.is_format) broken
+breaks_nothing bytes chunks sound OtherFormat place wave broken =
+    format_right bytes chunks sound IsOtherFormat 0 place wave (not_other wave.format.content _ _ wave.is_format) broken
+breaks_nothing bytes chunks sound OtherChannels place wave broken =
+    format_right bytes chunks sound HasOtherChannels 2 place wave
+    (not_other_channels wave.format.content _ _ wave.is_format wave.is_sound.has_channel wave.is_sound.few_channels) broken
+breaks_nothing bytes chunks sound OtherRate place wave broken =
+    format_right bytes chunks sound HasOtherRate 4 place wave (λ other. other wave.is_format.rate_field) broken
+breaks_nothing bytes chunks sound OtherDepth place wave broken =
+    format_right bytes chunks sound HasOtherDepth 14 place wave (not_other_depth wave.format.content _ _ wave.is_format) broken
+breaks_nothing bytes chunks sound OtherAlign place wave broken =
+    format_right bytes chunks sound HasOtherAlign 12 place wave (not_other_align wave.format.content _ _ wave.is_format) broken
+breaks_nothing bytes chunks sound NoData place wave broken =
+    none_and_one _ wave.data_chunk (of_chunks bytes chunks sound (λ (cs : List Chunk). Lacks (codes "data") cs (length bytes) place) wave broken).0 wave.one_data
+breaks_nothing bytes chunks sound PartFrame place wave broken =
+    part_frame_is_right chunks place wave.format wave.data_chunk wave.one_format wave.one_data
+    (not_part_frame wave.format.content wave.data_chunk.content sound wave.is_format wave.samples)
+    (of_chunks bytes chunks sound (λ (cs : List Chunk). HasPartFrame cs place) wave broken)
+breaks_nothing bytes chunks sound ShortBext place wave broken =
+    let short = of_chunks bytes chunks sound (λ (cs : List Chunk). HasShortBext cs place) wave broken in not_short_bext _ short.0 wave.one_bext short.1 short.2

@@ -4,6 +4,7 @@ use Rattle.std.specs.Prelude.{◌≡◌, ◌⊎◌, ◌+◌, ◌%◌, ◌^◌, �
 use Rattle.std.specs.Int.{w16, w32, to_le_bytes, from_le_bytes}
 use Rattle.std.specs.Cmp.Lexicographic.{pointwise}
 use Rattle.lib_base.specs.Sounds.{part}
+use Rattle.file_model.specs.declared.wave_fields.TheConstants.{CHUNKS_AT, LENGTH_AT, CHUNK_HEAD_BYTES}
 
 -- a number in two bytes
 abbrev pub two_bytes : ℕ → List ℕ
@@ -48,7 +49,7 @@ Begins bytes (chunk ∷ chunks) rest =
 
 -- no whole chunk stands first in these bytes: its head, or its content, passes their end
 abbrev pub IsCut : List ℕ → Type 0
-IsCut bytes = (length bytes < 8) ⊎ (length bytes < 8 + number_at bytes 4)
+IsCut bytes = (length bytes < CHUNK_HEAD_BYTES) ⊎ (length bytes < CHUNK_HEAD_BYTES + number_at bytes LENGTH_AT)
 
 -- a chunk's content, and the place of the chunk's head in the file
 pub record Placed : Type 0 where
@@ -57,7 +58,7 @@ pub record Placed : Type 0 where
 
 -- where the next chunk has its head, after one that has it here
 abbrev pub next_head : ℕ → Chunk → ℕ
-next_head head chunk = head + 8 + length chunk.content + length chunk.content % 2
+next_head head chunk = head + CHUNK_HEAD_BYTES + length chunk.content + length chunk.content % 2
 
 -- the chunks of a name, of chunks the first of which has its head here
 abbrev pub named_from : ℕ → List ℕ → List Chunk → List Placed
@@ -67,9 +68,9 @@ named_from head name (chunk ∷ chunks) =
     then record { head = head; content = chunk.content } ∷ named_from (next_head head chunk) name chunks
     else named_from (next_head head chunk) name chunks
 
--- the chunks of a name in a file, the first chunk of which has its head at 12
+-- the chunks of a name in a file
 abbrev pub named : List ℕ → List Chunk → List Placed
-named name chunks = named_from 12 name chunks
+named name chunks = named_from CHUNKS_AT name chunks
 
 -- the place of the second of some chunks
 abbrev pub second_head : List Placed → Option ℕ

@@ -1,9 +1,9 @@
 -- What a file reads as.
 use Rattle.std.specs.Prelude.{◌≡◌, ℕ, List}
 use Rattle.lib_base.specs.declared.outcomes.Rule.{Rule}
-use Rattle.lib_base.specs.declared.outcomes.Rule.TheVariants.{V}
+use Rattle.file_model.specs.declared.wave_rules.WaveRule.{WaveRule}
 use Rattle.file_model.specs.Pcm.{Pcm}
-use Rattle.file_model.specs.Rules.{Breaks, BreaksNoneBelow}
+use Rattle.file_model.specs.Rules.{rule_of, Breaks, BreaksNoneBelow}
 use Rattle.file_model.specs.Wave.{IsWave}
 
 -- accepted, with its sound, or broken by a rule at a place
@@ -16,12 +16,12 @@ abbrev pub IsNoWave : List ℕ → Type 0
 IsNoWave bytes = (sound : Pcm) → ¬ IsWave bytes sound
 
 -- they are no wave, they break the rule at the place, and no lower rule anywhere
-pub record IsBroken (bytes : List ℕ) (number place : ℕ) : Type 0 where
+pub record IsBroken (bytes : List ℕ) (rule : WaveRule) (place : ℕ) : Type 0 where
   pub no_wave : IsNoWave bytes
-  pub breaks : Breaks bytes number place
-  pub lowest : BreaksNoneBelow bytes number
+  pub breaks : Breaks bytes rule place
+  pub lowest : BreaksNoneBelow bytes rule
 
 -- A wave is accepted with its sound. Anything else is broken by the lowest rule that it breaks, at its place.
 abbrev pub Reads : List ℕ → Reading → Type 0
 Reads bytes (accepted sound) = IsWave bytes sound
-Reads bytes (broken rule place) = (number : ℕ) × (rule ≡ V number) × IsBroken bytes number place
+Reads bytes (broken rule place) = (lowest : WaveRule) × (rule ≡ rule_of lowest) × IsBroken bytes lowest place

@@ -3,6 +3,7 @@
 use Rattle.std.specs.Prelude.{◌≡◌, ◌⊎◌, ◌+◌, ◌/◌, ◌^◌, ◌<◌, ◌≤◌, ℕ, ℤ, List, [], ◌∷◌, ◌++◌, length, take, codes, flat_map}
 use Rattle.std.specs.Int.{w32, cast_unsigned}
 use Rattle.lib_base.specs.Sounds.{IsSound}
+use Rattle.file_model.specs.declared.wave_fields.TheConstants.{FORM_AT, BEXT_BYTES}
 use Rattle.file_model.specs.Pcm.{Pcm, interleaved}
 use Rattle.file_model.specs.Chunks.{Chunk, Placed, Begins, named, four_bytes}
 use Rattle.file_model.specs.Format.{IsFormat}
@@ -13,11 +14,11 @@ sample_bytes depth sample = take (depth / 8) (four_bytes (cast_unsigned w32 samp
 
 -- the size field counts the bytes behind it, or one more or one fewer
 abbrev pub IsNear : ℕ → ℕ → Type 0
-IsNear size whole = (size + 8 ≤ whole + 1) × (whole ≤ size + 8 + 1)
+IsNear size whole = (FORM_AT + size ≤ whole + 1) × (whole ≤ FORM_AT + size + 1)
 
--- the `bext` chunks: none, or one of at least 602 bytes
+-- the `bext` chunks: none, or one that is long enough
 abbrev pub AtMostOneBext : List Placed → Type 0
-AtMostOneBext found = (found ≡ []) ⊎ ((bext : Placed) × (found ≡ bext ∷ []) × (602 ≤ length bext.content))
+AtMostOneBext found = (found ≡ []) ⊎ ((bext : Placed) × (found ≡ bext ∷ []) × (BEXT_BYTES ≤ length bext.content))
 
 -- the bytes are a wave file of these chunks and this sound
 pub record IsWaveOf (bytes : List ℕ) (chunks : List Chunk) (sound : Pcm) : Type 0 where

@@ -1,5 +1,6 @@
 -- Sounds as lists of samples.
 use Rattle.std.specs.Prelude.{◌≡◌, ◌≤◌, ◌<◌, ◌-◌, ◌^◌, ℕ, ℤ, pos, neg_ℤ, ◌≤ℤ◌, ◌<ℤ◌, List, [], length, take, drop, slice_index_or, All}
+use Rattle.lib_base.specs.declared.limits.TheConstants.{MOST_CHANNELS}
 
 -- the elements of a list from `start` on, `count` of them
 abbrev pub part : {A : Type 0} → List A → ℕ → ℕ → List A
@@ -16,7 +17,7 @@ IsSample depth s = (neg_ℤ (pos (2 ^ (depth - 1))) ≤ℤ s) × (s <ℤ pos (2 
 -- one to six equally long lists, one for each channel, of samples within a depth from 4 to 24
 pub record IsSound (lists : List (List ℤ)) (depth frames : ℕ) : Type 0 where
   pub has_channel : 1 ≤ length lists
-  pub few_channels : length lists ≤ 6
+  pub few_channels : length lists ≤ MOST_CHANNELS
   pub least_depth : 4 ≤ depth
   pub greatest_depth : depth ≤ 24
   pub short : frames < 2 ^ 60

@@ -8,6 +8,7 @@
 
 mod doors;
 mod files;
+mod limits;
 mod outcomes;
 mod plans;
 mod sinks;
@@ -19,6 +20,7 @@ mod values;
 
 pub use doors::{Door, MemDoor};
 pub use files::{Kind, Measured, Span, Summary, kind_of};
+pub use limits::{MOST_CHANNELS, SAMPLE_RATE};
 pub use outcomes::{Broken, Failed, Memory, Outside, Refused, Rule};
 pub use plans::FaultPlan;
 pub use sinks::{MemSink, Sink, write_all};

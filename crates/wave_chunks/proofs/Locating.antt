@@ -7,6 +7,7 @@ use Rattle.std.specs.Cmp.Lexicographic.{pointwise}
 use Rattle.std.proofs.lemmas.List.{drop-drop}
 use Rattle.lib_base.specs.Sounds.{part}
 use Rattle.lib_base.specs.declared.files.Span.{Span}
+use Rattle.file_model.specs.declared.wave_rules.WaveRule.TheVariants.{NoFormat, ShortFormat, NoData, PartFrame, ShortBext}
 use Rattle.file_model.specs.Chunks.{Chunk, Placed, Begins, named, named_from, next_head}
 use Rattle.file_model.specs.Rules.{Lacks, HasPartFrame, HasShortBext, BreaksNoneBelow}
 use Rattle.file_model.specs.Format.{IsFormat, channels_of, depth_of, align_of}
@@ -102,11 +103,11 @@ lacks_and_has name bytes span place has lacks =
     empty_and_one : (found : List Placed) (placed : Placed) → found ≡ [] → found ≡ placed ∷ [] → ⊥
     empty_and_one found placed h k = cc
 
-pub none_below_7 : (bytes : List ℕ) (span : Span) → HasOne bytes (codes "fmt ") span → BreaksNoneBelow bytes 6 → BreaksNoneBelow bytes 7
-none_below_7 bytes span has lower = none_below_next bytes 6 7 refl lower (λ place. lacks_and_has (codes "fmt ") bytes span place has)
+pub none_below_short_format : (bytes : List ℕ) (span : Span) → HasOne bytes (codes "fmt ") span → BreaksNoneBelow bytes NoFormat → BreaksNoneBelow bytes ShortFormat
+none_below_short_format bytes span has lower = none_below_next bytes NoFormat ShortFormat refl lower (λ place. lacks_and_has (codes "fmt ") bytes span place has)
 
-pub none_below_14 : (bytes : List ℕ) (span : Span) → HasOne bytes (codes "data") span → BreaksNoneBelow bytes 13 → BreaksNoneBelow bytes 14
-none_below_14 bytes span has lower = none_below_next bytes 13 14 refl lower (λ place. lacks_and_has (codes "data") bytes span place has)
+pub none_below_part_frame : (bytes : List ℕ) (span : Span) → HasOne bytes (codes "data") span → BreaksNoneBelow bytes NoData → BreaksNoneBelow bytes PartFrame
+none_below_part_frame bytes span has lower = none_below_next bytes NoData PartFrame refl lower (λ place. lacks_and_has (codes "data") bytes span place has)
 
 pub says_format : (bytes content : List ℕ) (at : ℕ) (format : Format) → IsFormatContent bytes content at
     → IsFormat content (channels_of content) (depth_of content) → 1 ≤ channels_of content → channels_of content ≤ 6
@@ -165,10 +166,10 @@ part_frame bytes span format place says has part is =
       ),
     )
 
-pub none_below_15 : (bytes : List ℕ) (span : Span) (format : Format) → SaysFormat bytes format → HasOne bytes (codes "data") span
-    → (span.end - span.start) % format.align ≡ 0 → BreaksNoneBelow bytes 13 → BreaksNoneBelow bytes 15
-none_below_15 bytes span format says has whole lower =
-    none_below_next bytes 14 15 refl (none_below_14 bytes span has lower)
+pub none_below_short_bext : (bytes : List ℕ) (span : Span) (format : Format) → SaysFormat bytes format → HasOne bytes (codes "data") span
+    → (span.end - span.start) % format.align ≡ 0 → BreaksNoneBelow bytes NoData → BreaksNoneBelow bytes ShortBext
+none_below_short_bext bytes span format says has whole lower =
+    none_below_next bytes PartFrame ShortBext refl (none_below_part_frame bytes span has lower)
     (λ (place : ℕ) (broken : (chunks : List Chunk) × Begins (drop 12 bytes) chunks [] × HasPartFrame chunks place).
     let found = broken.2 in
     let format_is : found.0 ≡ says.placed =

@@ -2,6 +2,7 @@
 use Rattle.std.proofs.Common.{◌≡◌, ◌+◌, ◌-◌, ℕ, List, [], ◌∷◌, map, slice_get, drop, refl, subst, ap, ◌∙◌, sym, arith}
 use Rattle.std.specs.Prelude.{codes, Option, Some, None}
 use Rattle.lib_base.specs.declared.files.Span.{Span}
+use Rattle.file_model.specs.declared.wave_rules.WaveRule.TheVariants.{RepeatedChunk, NoFormat}
 use Rattle.file_model.specs.Chunks.{Chunk, Placed, Begins, named, second_head, earlier, first_repeat}
 use Rattle.file_model.specs.Rules.{BreaksNoneBelow}
 use Rattle.file_model.proofs.Readings.{none_below_next}
@@ -84,10 +85,10 @@ bext_part bytes spans are first is none = part_of bytes (codes "bext") spans are
 some_and_none : (place : ℕ) (found : Option ℕ) → found ≡ None → found ≡ Some place → ⊥
 some_and_none place found h k = cc
 
-pub none_below_6 : (bytes : List ℕ) (spans : List Stored) (are : AreChunks bytes spans) → first_repeat are.chunks ≡ None → BreaksNoneBelow bytes 5
-    → BreaksNoneBelow bytes 6
-none_below_6 bytes spans are none lower =
-    none_below_next bytes 5 6 refl lower (λ (place : ℕ) (broken : (chunks : List Chunk) × Begins (drop 12 bytes) chunks [] × (first_repeat chunks ≡ Some place)).
+pub none_below_no_format : (bytes : List ℕ) (spans : List Stored) (are : AreChunks bytes spans) → first_repeat are.chunks ≡ None → BreaksNoneBelow bytes RepeatedChunk
+    → BreaksNoneBelow bytes NoFormat
+none_below_no_format bytes spans are none lower =
+    none_below_next bytes RepeatedChunk NoFormat refl lower (λ (place : ℕ) (broken : (chunks : List Chunk) × Begins (drop 12 bytes) chunks [] × (first_repeat chunks ≡ Some place)).
     some_and_none place (first_repeat are.chunks) none (ap first_repeat (chunks_unique are.chunks broken.0 (drop 12 bytes) are.whole broken.1) ∙ broken.2))
 
 -- the earliest of three places, one after another

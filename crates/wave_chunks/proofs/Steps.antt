@@ -3,10 +3,11 @@ use Rattle.std.proofs.Common.{◌≡◌, ◌≢◌, ◌≤◌, ◌<◌, ◌+◌,
 use Rattle.std.specs.Prelude.{codes}
 use Rattle.std.specs.Int.{abs_diff}
 use Rattle.lib_base.specs.Sounds.{part}
+use Rattle.file_model.specs.declared.wave_rules.WaveRule.TheVariants.{NoRiff, OtherForm, OtherSize, CutChunk}
 use Rattle.file_model.specs.Chunks.{Chunk, Placed, Begins, named, number_at}
 use Rattle.file_model.specs.Rules.{FormatIs, IsNoRiff, IsOtherForm, HasOtherSize, BreaksNoneBelow}
 use Rattle.file_model.specs.Wave.{IsNear}
-use Rattle.file_model.proofs.Readings.{none_below_1, none_below_next}
+use Rattle.file_model.proofs.Readings.{none_below_first, none_below_next}
 use Rattle.file_model.proofs.Spellings.{chunks_unique}
 use Rattle.file_model.proofs.Waves.{one_placed}
 use Rattle.file_model.specs.Format.{IsShortFormat, IsOtherFormat, HasOtherChannels, HasOtherDepth, HasOtherAlign, channels_of, depth_of, align_of}
@@ -54,19 +55,19 @@ other_align content align channels depth is_align is_channels is_depth differs s
 
 -- ---- the first 12 bytes
 
-pub none_below_2 : (bytes : List ℕ) → 12 ≤ length bytes → part bytes 0 4 ≡ codes "RIFF" → BreaksNoneBelow bytes 2
-none_below_2 bytes long riff =
-    none_below_next bytes 1 2 refl (none_below_1 bytes)
+pub none_below_other_form : (bytes : List ℕ) → 12 ≤ length bytes → part bytes 0 4 ≡ codes "RIFF" → BreaksNoneBelow bytes OtherForm
+none_below_other_form bytes long riff =
+    none_below_next bytes NoRiff OtherForm refl (none_below_first bytes)
     (λ (place : ℕ) (broken : IsNoRiff bytes place). elim broken.0 [ inl short ↦ omega (arith, long, short) | inr other ↦ other riff ])
 
-pub none_below_3 : (bytes : List ℕ) → 12 ≤ length bytes → part bytes 0 4 ≡ codes "RIFF" → part bytes 8 4 ≡ codes "WAVE" → BreaksNoneBelow bytes 3
-none_below_3 bytes long riff form =
-    none_below_next bytes 2 3 refl (none_below_2 bytes long riff) (λ (place : ℕ) (broken : IsOtherForm bytes place). broken.0 form)
+pub none_below_other_size : (bytes : List ℕ) → 12 ≤ length bytes → part bytes 0 4 ≡ codes "RIFF" → part bytes 8 4 ≡ codes "WAVE" → BreaksNoneBelow bytes OtherSize
+none_below_other_size bytes long riff form =
+    none_below_next bytes OtherForm OtherSize refl (none_below_other_form bytes long riff) (λ (place : ℕ) (broken : IsOtherForm bytes place). broken.0 form)
 
-pub none_below_4 : (bytes : List ℕ) → 12 ≤ length bytes → part bytes 0 4 ≡ codes "RIFF" → part bytes 8 4 ≡ codes "WAVE"
-    → IsNear (number_at bytes 4) (length bytes) → BreaksNoneBelow bytes 4
-none_below_4 bytes long riff form near =
-    none_below_next bytes 3 4 refl (none_below_3 bytes long riff form) (λ (place : ℕ) (broken : HasOtherSize bytes place). broken.0 near)
+pub none_below_cut_chunk : (bytes : List ℕ) → 12 ≤ length bytes → part bytes 0 4 ≡ codes "RIFF" → part bytes 8 4 ≡ codes "WAVE"
+    → IsNear (number_at bytes 4) (length bytes) → BreaksNoneBelow bytes CutChunk
+none_below_cut_chunk bytes long riff form near =
+    none_below_next bytes OtherSize CutChunk refl (none_below_other_size bytes long riff form) (λ (place : ℕ) (broken : HasOtherSize bytes place). broken.0 near)
 
 -- what a test of a part told
 pub part_there : (bytes wanted slice : List ℕ) (at : ℕ) (answer : Bool) → slice ≡ wanted → (IsTrue answer ↔ (part bytes at (length slice) ≡ slice)) → answer ≡ true

@@ -4,6 +4,7 @@ use Rattle.std.proofs.lemmas.Bool.{cases_lt, lt-ltb, le-ltb}
 use Rattle.std.proofs.lemmas.List.{drop_all}
 use Rattle.lib_base.specs.Sounds.{part}
 use Rattle.lib_base.specs.declared.files.Span.{Span}
+use Rattle.file_model.specs.declared.wave_rules.WaveRule.TheVariants.{CutChunk, RepeatedChunk}
 use Rattle.file_model.specs.Chunks.{Chunk, Begins, IsPad, IsCut, spelling, next_head, number_at, four_bytes}
 use Rattle.file_model.specs.Rules.{IsCutAt, BreaksNoneBelow}
 use Rattle.file_model.proofs.Makes.{part_and_rest, number_fits, four_bytes-number_at}
@@ -139,7 +140,7 @@ walk_cut bytes at spans walked before cut =
     (walked.chunks, drop at bytes, walked.begins, omega (arith, left, before), cut, omega (arith, left, before))
 
 -- where the chunks are whole, none passes the end
-pub none_below_5 : (bytes : List ℕ) (spans : List Stored) → AreChunks bytes spans → BreaksNoneBelow bytes 4 → BreaksNoneBelow bytes 5
-none_below_5 bytes spans are lower =
-    none_below_next bytes 4 5 refl lower (λ (place : ℕ) (cut : IsCutAt bytes place).
+pub none_below_repeated_chunk : (bytes : List ℕ) (spans : List Stored) → AreChunks bytes spans → BreaksNoneBelow bytes CutChunk → BreaksNoneBelow bytes RepeatedChunk
+none_below_repeated_chunk bytes spans are lower =
+    none_below_next bytes CutChunk RepeatedChunk refl lower (λ (place : ℕ) (cut : IsCutAt bytes place).
     not_whole_and_cut cut.0 are.chunks (drop 12 bytes) cut.1 cut.4 cut.3 cut.2 are.whole)

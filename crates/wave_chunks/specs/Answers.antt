@@ -3,6 +3,7 @@ use Rattle.std.specs.Prelude.{◌≡◌, ◌≤◌, ◌+◌, ℕ, List, [], ◌�
 use Rattle.std.specs.Option.{option_map}
 use Rattle.lib_base.specs.declared.outcomes.Refused.{Refused}
 use Rattle.lib_base.specs.declared.outcomes.Refused.TheVariants.{Broken, Memory}
+use Rattle.file_model.specs.declared.wave_fields.TheConstants.{CHUNKS_AT, CHUNK_HEAD_BYTES}
 use Rattle.file_model.specs.Chunks.{Chunk, Placed, Begins, named}
 use Rattle.file_model.specs.Pcm.{Pcm}
 use Rattle.file_model.specs.Reading.{Reads, broken}
@@ -15,7 +16,7 @@ pub record IsReadOf (bytes : List ℕ) (wave : Shape) : Type 0 where
   pub chunks : List Chunk
   pub sound : Pcm
   pub reads : IsWaveOf bytes chunks sound
-  pub spans : wave.chunks ≡ spans_from 12 chunks
+  pub spans : wave.chunks ≡ spans_from CHUNKS_AT chunks
   pub channels : wave.channels ≡ length sound.lists
   pub depth : wave.depth ≡ sound.depth
   pub frames : wave.frames ≡ sound.frames
@@ -32,9 +33,9 @@ IsRefusalOf bytes Memory = ⊤
 -- this is the content of the one `fmt ` chunk, and this its place
 pub record IsFormatContent (bytes : List ℕ) (content : List ℕ) (at : ℕ) : Type 0 where
   pub chunks : List Chunk
-  pub whole : Begins (drop 12 bytes) chunks []
+  pub whole : Begins (drop CHUNKS_AT bytes) chunks []
   pub format : Placed
   pub one : named (codes "fmt ") chunks ≡ format ∷ []
   pub content_is : content ≡ format.content
-  pub at_is : at ≡ format.head + 8
+  pub at_is : at ≡ format.head + CHUNK_HEAD_BYTES
   pub inside : at + length content ≤ length bytes

@@ -8,14 +8,10 @@ ghost use Rattle.wave_chunks.specs.Spans.{AreChunks, IsStored, IsPlaceOf, spans_
 
 use crate::broken;
 use crate::fields::number_at;
+use file_model::WaveRule;
+use file_model::wave_fields::{CHUNK_HEAD_BYTES, CHUNKS_AT, LENGTH_AT};
 use lib_base::{Refused, Span};
 use std::alloc::Global;
-
-/// Where the first chunk's head lies.
-const FIRST: usize = 12;
-
-/// How many bytes a chunk's head takes: its name, and the length of its content.
-const HEAD: usize = 8;
 
 /// A chunk: its name, and where its content lies.
 #[derive(Clone, Copy, Debug, PartialEq, Eq)]
@@ -24,19 +20,19 @@ pub struct Chunk {
     pub content: Span,
 }
 
-/// The chunks of a file, from byte 12 to the end.
+/// The chunks of a file.
 pub(crate) fn read_chunks(alloc: Global, bytes: &[u8]) -> Result<Vec<Chunk>, Refused>
-    requires long { 12 ≤ length bytes.now }
-    requires lower { BreaksNoneBelow bytes.now 4 }
+    requires long { CHUNKS_AT ≤ length bytes.now }
+    requires lower { BreaksNoneBelow bytes.now WaveRule.CutChunk }
     ensures ok { IfOk result (λ chunks. AreChunks bytes.now chunks.items) }
-    ensures passed { OnOk result (BreaksNoneBelow bytes.now 5) }
+    ensures passed { OnOk result (BreaksNoneBelow bytes.now WaveRule.RepeatedChunk) }
     ensures err { IfErr result (λ refused. IsRefusalOf bytes.now refused) }
 {
     let mut chunks = Vec::new(alloc);
-    let mut at = FIRST;
+    let mut at = CHUNKS_AT;
     'chunks: while at < bytes.len() {
         let Some(chunk) = chunk_at(bytes, at) else {
-            return Err(broken(4, at));
+            return Err(broken(WaveRule::CutChunk, at));
         };
         chunks.push(chunk)?;
         at = next_head(chunk.content, bytes.len());
@@ -51,14 +47,14 @@ fn chunk_at(bytes: &[u8], at: usize) -> Option<Chunk>
 {
     let rest = bytes.split_at(at).1;
     let name = *rest.first_chunk::<4>()?;
-    if rest.len() < HEAD {
+    if rest.len() < CHUNK_HEAD_BYTES {
         return None;
     }
-    let count = number_at(rest, 4) as usize;
-    if rest.len() - HEAD < count {
+    let count = number_at(rest, LENGTH_AT) as usize;
+    if rest.len() - CHUNK_HEAD_BYTES < count {
         return None;
     }
-    let start = at + HEAD;
+    let start = at + CHUNK_HEAD_BYTES;
     Some(Chunk {
         name,
         content: Span {
@@ -84,9 +80,9 @@ fn next_head(content: Span, whole: usize) -> usize
 
 /// Where the head of the chunk lies whose content this is.
 pub(crate) fn head_before(content: Span) -> usize
-    ensures { result ≡ content.start - 8 }
+    ensures { result ≡ content.start - CHUNK_HEAD_BYTES }
 {
-    content.start.saturating_sub(HEAD)
+    content.start.saturating_sub(CHUNK_HEAD_BYTES)
 }
 
 /// The first two contents of a name.

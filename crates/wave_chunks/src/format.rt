@@ -7,21 +7,12 @@ ghost use Rattle.wave_chunks.specs.Formats.{IsLongEnough, IsPcm};
 
 use crate::broken;
 use crate::fields::{has_part, number_at, short_at};
-use lib_base::Refused;
-
-/// The format tag of PCM.
-const PCM: u16 = 1;
-
-/// The format tag of the extensible form, in which a subformat names PCM.
-const EXTENSIBLE: u16 = 0xFFFE;
-
-/// The subformat of PCM.
-const PCM_SUBFORMAT: [u8; 16] = [
-    0x01, 0x00, 0x00, 0x00, 0x00, 0x00, 0x10, 0x00, 0x80, 0x00, 0x00, 0xAA, 0x00, 0x38, 0x9B, 0x71,
-];
-
-/// The samples each second of every file that is read.
-const RATE: u32 = 48_000;
+use file_model::WaveRule;
+use file_model::wave_fields::{
+    ALIGN_AT, CHANNELS_AT, DEPTH_AT, EXTENSIBLE_BYTES, EXTENSIBLE_TAG, FORMAT_BYTES, PCM_SUBFORMAT,
+    PCM_TAG, RATE_AT, SUBFORMAT_AT, TAG_AT,
+};
+use lib_base::{MOST_CHANNELS, Refused, SAMPLE_RATE};
 
 /// What a `fmt ` content says.
 #[derive(Clone, Copy)]
@@ -35,14 +26,14 @@ pub(crate) struct Format {
 /// size, valid bits and channel mask are not consulted.
 pub(crate) fn read_format(bytes: &[u8], content: &[u8], at: usize) -> Result<Format, Refused>
     requires is_content { IsFormatContent bytes.now content.now at }
-    requires lower { BreaksNoneBelow bytes.now 7 }
+    requires lower { BreaksNoneBelow bytes.now WaveRule.ShortFormat }
     ensures format { IfOk result (λ format. IsFormat content.now (channels_of content.now) (depth_of content.now)) }
     ensures channels { IfOk result (λ format. format.channels ≡ channels_of content.now) }
     ensures some { OnOk result (1 ≤ channels_of content.now) }
-    ensures few { OnOk result (channels_of content.now ≤ 6) }
+    ensures few { OnOk result (channels_of content.now ≤ MOST_CHANNELS) }
     ensures depth { IfOk result (λ format. format.depth ≡ depth_of content.now) }
     ensures align { IfOk result (λ format. format.align ≡ align_of content.now) }
-    ensures passed { OnOk result (BreaksNoneBelow bytes.now 13) }
+    ensures passed { OnOk result (BreaksNoneBelow bytes.now WaveRule.NoData) }
     ensures err { IfErr result (λ refused. IsRefusalOf bytes.now refused) }
 {
     check_length(bytes, content, at)?;
@@ -61,13 +52,15 @@ pub(crate) fn read_format(bytes: &[u8], content: &[u8], at: usize) -> Result<For
 /// Tries whether the content is as long as its form asks.
 fn check_length(bytes: &[u8], content: &[u8], at: usize) -> Result<(), Refused>
     requires is_content { IsFormatContent bytes.now content.now at }
-    requires lower { BreaksNoneBelow bytes.now 7 }
+    requires lower { BreaksNoneBelow bytes.now WaveRule.ShortFormat }
     ensures long { OnOk result (IsLongEnough content.now) }
-    ensures passed { OnOk result (BreaksNoneBelow bytes.now 8) }
+    ensures passed { OnOk result (BreaksNoneBelow bytes.now WaveRule.OtherFormat) }
     ensures err { IfErr result (λ refused. IsRefusalOf bytes.now refused) }
 {
-    if content.len() < 16 || (content.len() < 40 && short_at(content, 0) == EXTENSIBLE) {
-        return Err(broken(7, at));
+    if content.len() < FORMAT_BYTES
+        || (content.len() < EXTENSIBLE_BYTES && short_at(content, TAG_AT) == EXTENSIBLE_TAG)
+    {
+        return Err(broken(WaveRule::ShortFormat, at + TAG_AT));
     }
     Ok(())
 }
@@ -76,13 +69,13 @@ fn check_length(bytes: &[u8], content: &[u8], at: usize) -> Result<(), Refused>
 fn check_form(bytes: &[u8], content: &[u8], at: usize) -> Result<(), Refused>
     requires is_content { IsFormatContent bytes.now content.now at }
     requires long { IsLongEnough content.now }
-    requires lower { BreaksNoneBelow bytes.now 8 }
+    requires lower { BreaksNoneBelow bytes.now WaveRule.OtherFormat }
     ensures pcm { OnOk result (IsPcm content.now) }
-    ensures passed { OnOk result (BreaksNoneBelow bytes.now 9) }
+    ensures passed { OnOk result (BreaksNoneBelow bytes.now WaveRule.OtherChannels) }
     ensures err { IfErr result (λ refused. IsRefusalOf bytes.now refused) }
 {
     if !is_pcm(content) {
-        return Err(broken(8, at));
+        return Err(broken(WaveRule::OtherFormat, at + TAG_AT));
     }
     Ok(())
 }
@@ -92,9 +85,9 @@ fn is_pcm(content: &[u8]) -> bool
     requires { IsLongEnough content.now }
     ensures { MatchBool result (IsPcm content.now) (IsOtherFormat content.now) }
 {
-    match short_at(content, 0) {
-        PCM => true,
-        EXTENSIBLE => has_part(content, 24, PCM_SUBFORMAT.as_slice()),
+    match short_at(content, TAG_AT) {
+        PCM_TAG => true,
+        EXTENSIBLE_TAG => has_part(content, SUBFORMAT_AT, PCM_SUBFORMAT.as_slice()),
         _ => false,
     }
 }
@@ -103,16 +96,16 @@ fn is_pcm(content: &[u8]) -> bool
 fn read_channels(bytes: &[u8], content: &[u8], at: usize) -> Result<u16, Refused>
     requires is_content { IsFormatContent bytes.now content.now at }
     requires long { IsLongEnough content.now }
-    requires lower { BreaksNoneBelow bytes.now 9 }
+    requires lower { BreaksNoneBelow bytes.now WaveRule.OtherChannels }
     ensures channels { IfOk result (λ channels. channels ≡ channels_of content.now) }
     ensures some { OnOk result (1 ≤ channels_of content.now) }
-    ensures few { OnOk result (channels_of content.now ≤ 6) }
-    ensures passed { OnOk result (BreaksNoneBelow bytes.now 10) }
+    ensures few { OnOk result (channels_of content.now ≤ MOST_CHANNELS) }
+    ensures passed { OnOk result (BreaksNoneBelow bytes.now WaveRule.OtherRate) }
     ensures err { IfErr result (λ refused. IsRefusalOf bytes.now refused) }
 {
-    let channels = short_at(content, 2);
-    if channels < 1 || channels > 6 {
-        return Err(broken(9, at + 2));
+    let channels = short_at(content, CHANNELS_AT);
+    if channels < 1 || channels > MOST_CHANNELS {
+        return Err(broken(WaveRule::OtherChannels, at + CHANNELS_AT));
     }
     Ok(channels)
 }
@@ -121,13 +114,13 @@ fn read_channels(bytes: &[u8], content: &[u8], at: usize) -> Result<u16, Refused
 fn check_rate(bytes: &[u8], content: &[u8], at: usize) -> Result<(), Refused>
     requires is_content { IsFormatContent bytes.now content.now at }
     requires long { IsLongEnough content.now }
-    requires lower { BreaksNoneBelow bytes.now 10 }
-    ensures rate { OnOk result (rate_of content.now ≡ 48000) }
-    ensures passed { OnOk result (BreaksNoneBelow bytes.now 11) }
+    requires lower { BreaksNoneBelow bytes.now WaveRule.OtherRate }
+    ensures rate { OnOk result (rate_of content.now ≡ SAMPLE_RATE) }
+    ensures passed { OnOk result (BreaksNoneBelow bytes.now WaveRule.OtherDepth) }
     ensures err { IfErr result (λ refused. IsRefusalOf bytes.now refused) }
 {
-    if number_at(content, 4) != RATE {
-        return Err(broken(10, at + 4));
+    if number_at(content, RATE_AT) != SAMPLE_RATE {
+        return Err(broken(WaveRule::OtherRate, at + RATE_AT));
     }
     Ok(())
 }
@@ -136,15 +129,15 @@ fn check_rate(bytes: &[u8], content: &[u8], at: usize) -> Result<(), Refused>
 fn read_depth(bytes: &[u8], content: &[u8], at: usize) -> Result<u16, Refused>
     requires is_content { IsFormatContent bytes.now content.now at }
     requires long { IsLongEnough content.now }
-    requires lower { BreaksNoneBelow bytes.now 11 }
+    requires lower { BreaksNoneBelow bytes.now WaveRule.OtherDepth }
     ensures depth { IfOk result (λ depth. depth ≡ depth_of content.now) }
     ensures known { OnOk result ((depth_of content.now ≡ 16) ⊎ (depth_of content.now ≡ 24)) }
-    ensures passed { OnOk result (BreaksNoneBelow bytes.now 12) }
+    ensures passed { OnOk result (BreaksNoneBelow bytes.now WaveRule.OtherAlign) }
     ensures err { IfErr result (λ refused. IsRefusalOf bytes.now refused) }
 {
-    let depth = short_at(content, 14);
+    let depth = short_at(content, DEPTH_AT);
     if depth != 16 && depth != 24 {
-        return Err(broken(11, at + 14));
+        return Err(broken(WaveRule::OtherDepth, at + DEPTH_AT));
     }
     Ok(depth)
 }
@@ -160,18 +153,18 @@ fn read_align(
     requires is_content { IsFormatContent bytes.now content.now at }
     requires long { IsLongEnough content.now }
     requires channels { channels ≡ channels_of content.now }
-    requires few { channels_of content.now ≤ 6 }
+    requires few { channels_of content.now ≤ MOST_CHANNELS }
     requires depth { depth ≡ depth_of content.now }
     requires known { (depth_of content.now ≡ 16) ⊎ (depth_of content.now ≡ 24) }
-    requires lower { BreaksNoneBelow bytes.now 12 }
+    requires lower { BreaksNoneBelow bytes.now WaveRule.OtherAlign }
     ensures align { IfOk result (λ align. align ≡ align_of content.now) }
     ensures is { OnOk result (align_of content.now ≡ channels_of content.now * depth_of content.now / 8) }
-    ensures passed { OnOk result (BreaksNoneBelow bytes.now 13) }
+    ensures passed { OnOk result (BreaksNoneBelow bytes.now WaveRule.NoData) }
     ensures err { IfErr result (λ refused. IsRefusalOf bytes.now refused) }
 {
-    let align = short_at(content, 12);
+    let align = short_at(content, ALIGN_AT);
     if align != channels * depth / 8 {
-        return Err(broken(12, at + 12));
+        return Err(broken(WaveRule::OtherAlign, at + ALIGN_AT));
     }
     Ok(align)
 }

@@ -21,16 +21,17 @@ mod tests;
 mod waves;
 
 pub use chunks::Chunk;
-use lib_base::{Broken, Refused, Rule};
+use file_model::WaveRule;
+use lib_base::{Broken, Refused};
 pub use pcm_copy::pcm;
 pub use waves::{Wave, read};
 
 /// The refusal of a file that breaks a rule of waves at a place, and no lower one.
-fn broken(number: u8, place: usize) -> Refused
-    ensures { (bytes : List ℕ) → BreaksNoneBelow bytes number → Breaks bytes number place → IsRefusalOf bytes result }
+fn broken(rule: WaveRule, place: usize) -> Refused
+    ensures { (bytes : List ℕ) → BreaksNoneBelow bytes rule → Breaks bytes rule place → IsRefusalOf bytes result }
 {
     Refused::Broken(Broken {
-        rule: Rule::V(number),
+        rule: rule.rule(),
         place: place as u64,
     })
 }

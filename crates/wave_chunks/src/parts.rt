@@ -7,6 +7,7 @@ ghost use Rattle.wave_chunks.specs.Spans.{AreChunks, AtMostOne, head_of};
 
 use crate::broken;
 use crate::chunks::{Chunk, head_before, named};
+use file_model::WaveRule;
 use lib_base::{Refused, Span};
 
 /// Where the contents of the chunks lie that stand once at most.
@@ -20,11 +21,11 @@ pub(crate) struct Parts {
 /// Finds the `fmt `, `data` and `bext` chunks.
 pub(crate) fn find_parts(bytes: &[u8], chunks: &[Chunk]) -> Result<Parts, Refused>
     requires chunks { AreChunks bytes.now chunks.now }
-    requires lower { BreaksNoneBelow bytes.now 5 }
+    requires lower { BreaksNoneBelow bytes.now WaveRule.RepeatedChunk }
     ensures format { IfOk result (λ parts. AtMostOne bytes.now (codes "fmt ") parts.format) }
     ensures samples { IfOk result (λ parts. AtMostOne bytes.now (codes "data") parts.samples) }
     ensures bext { IfOk result (λ parts. AtMostOne bytes.now (codes "bext") parts.bext) }
-    ensures passed { OnOk result (BreaksNoneBelow bytes.now 6) }
+    ensures passed { OnOk result (BreaksNoneBelow bytes.now WaveRule.NoFormat) }
     ensures err { IfErr result (λ refused. IsRefusalOf bytes.now refused) }
 {
     let format = named(chunks, *b"fmt ");
@@ -32,7 +33,7 @@ pub(crate) fn find_parts(bytes: &[u8], chunks: &[Chunk]) -> Result<Parts, Refuse
     let bext = named(chunks, *b"bext");
     let repeats = earlier(head_of(samples.second), head_of(bext.second));
     if let Some(place) = earlier(head_of(format.second), repeats) {
-        return Err(broken(5, place));
+        return Err(broken(WaveRule::RepeatedChunk, place));
     }
     Ok(Parts {
         format: format.first,

@@ -1,6 +1,7 @@
 //! Worked files.
 use super::*;
-use lib_base::{Broken, Refused, Rule, Scratch, Sound, Span};
+use file_model::WaveRule;
+use lib_base::{Broken, Refused, Scratch, Sound, Span};
 use std::alloc::Global;
 use std::test::Fail;
 
@@ -42,9 +43,9 @@ fn refusal(alloc: Global, bytes: &[u8]) -> Option<Refused> {
 }
 
 /// The refusal by a rule at a place.
-fn by_rule(number: u8, place: u64) -> Option<Refused> {
+fn by_rule(rule: WaveRule, place: u64) -> Option<Refused> {
     Some(Refused::Broken(Broken {
-        rule: Rule::V(number),
+        rule: rule.rule(),
         place,
     }))
 }
@@ -52,26 +53,26 @@ fn by_rule(number: u8, place: u64) -> Option<Refused> {
 #[test]
 fn each_edit_breaks_its_rule(rt: HostRuntime) {
     let edits = [
-        (0, 0x53, 1, 0),
-        (8, 0x58, 2, 8),
-        (4, 0x26, 3, 4),
-        (40, 0x05, 4, 36),
-        (12, 0x78, 6, 48),
-        (20, 0x03, 8, 20),
-        (22, 0x07, 9, 22),
-        (24, 0x00, 10, 24),
-        (34, 0x08, 11, 34),
-        (32, 0x04, 12, 32),
-        (36, 0x78, 13, 48),
-        (40, 0x03, 14, 36),
+        (0, 0x53, WaveRule::NoRiff, 0),
+        (8, 0x58, WaveRule::OtherForm, 8),
+        (4, 0x26, WaveRule::OtherSize, 4),
+        (40, 0x05, WaveRule::CutChunk, 36),
+        (12, 0x78, WaveRule::NoFormat, 48),
+        (20, 0x03, WaveRule::OtherFormat, 20),
+        (22, 0x07, WaveRule::OtherChannels, 22),
+        (24, 0x00, WaveRule::OtherRate, 24),
+        (34, 0x08, WaveRule::OtherDepth, 34),
+        (32, 0x04, WaveRule::OtherAlign, 32),
+        (36, 0x78, WaveRule::NoData, 48),
+        (40, 0x03, WaveRule::PartFrame, 36),
     ];
-    for (place, value, number, broken_at) in edits {
+    for (place, value, rule, broken_at) in edits {
         assert!(rt; place < 48);
         let mut bytes = MONO;
         bytes[place] = value;
         assert_eq!(rt;
             refusal(rt.alloc(), bytes.as_slice()),
-            by_rule(number, broken_at),
+            by_rule(rule, broken_at),
             "byte {place} as {value}"
         );
     }
@@ -83,17 +84,32 @@ fn longer_edits_are_answered(rt: HostRuntime) {
     let mut extensible = MONO;
     extensible[20] = 0xFE;
     extensible[21] = 0xFF;
-    assert_eq!(rt; refusal(alloc, extensible.as_slice()), by_rule(7, 20));
+    assert_eq!(rt;
+        refusal(alloc, extensible.as_slice()),
+        by_rule(WaveRule::ShortFormat, 20)
+    );
     let mut fast = MONO;
     fast[24] = 0x00;
     fast[25] = 0x77;
     fast[26] = 0x01;
-    assert_eq!(rt; refusal(alloc, fast.as_slice()), by_rule(10, 24));
+    assert_eq!(rt;
+        refusal(alloc, fast.as_slice()),
+        by_rule(WaveRule::OtherRate, 24)
+    );
     let mut subformat = EXTENSIBLE;
     subformat[59] = 0x70;
-    assert_eq!(rt; refusal(alloc, subformat.as_slice()), by_rule(8, 20));
-    assert_eq!(rt; refusal(alloc, TWICE.as_slice()), by_rule(5, 48));
-    assert_eq!(rt; refusal(alloc, SHORT_BEXT.as_slice()), by_rule(15, 48));
+    assert_eq!(rt;
+        refusal(alloc, subformat.as_slice()),
+        by_rule(WaveRule::OtherFormat, 20)
+    );
+    assert_eq!(rt;
+        refusal(alloc, TWICE.as_slice()),
+        by_rule(WaveRule::RepeatedChunk, 48)
+    );
+    assert_eq!(rt;
+        refusal(alloc, SHORT_BEXT.as_slice()),
+        by_rule(WaveRule::ShortBext, 48)
+    );
     for size in [0x27, 0x28, 0x29] {
         let mut bytes = MONO;
         bytes[4] = size;
@@ -105,9 +121,9 @@ fn longer_edits_are_answered(rt: HostRuntime) {
 fn each_prefix_is_refused(rt: HostRuntime) {
     for length in 0..48 {
         let wanted = match length {
-            0..12 => by_rule(1, 0),
-            12..47 => by_rule(3, 4),
-            _ => by_rule(4, 36),
+            0..12 => by_rule(WaveRule::NoRiff, 0),
+            12..47 => by_rule(WaveRule::OtherSize, 4),
+            _ => by_rule(WaveRule::CutChunk, 36),
         };
         assert_eq!(rt;
             refusal(rt.alloc(), &MONO[..length]),

@@ -11,12 +11,11 @@ use crate::chunks::{Chunk, head_before, read_chunks};
 use crate::fields::{has_part, number_at};
 use crate::format::{Format, read_format};
 use crate::parts::find_parts;
+use file_model::WaveRule;
+use file_model::wave_fields::{BEXT_BYTES, CHUNKS_AT, FORM_AT, SIZE_AT};
 use lib_base::{Refused, Span};
 use std::alloc::Global;
 use std::marker::Model;
-
-/// How many bytes a `bext` content has at least.
-const BEXT: usize = 602;
 
 /// The parts of a wave file.
 #[derive(Debug, Drop)]
@@ -88,8 +87,7 @@ impl Wave {
     }
 }
 
-/// Reads a wave file. What is none is broken by the lowest of the rules V1 to V15 that it breaks, at
-/// its place.
+/// Reads a wave file. What is none is broken by the lowest rule that it breaks, at its place.
 pub fn read(alloc: Global, bytes: &[u8]) -> Result<Wave, Refused>
     ensures ok { IfOk result (λ wave. IsReadOf bytes.now wave) }
     ensures err { IfErr result (λ refused. IsRefusalOf bytes.now refused) }
@@ -111,21 +109,21 @@ pub fn read(alloc: Global, bytes: &[u8]) -> Result<Wave, Refused>
     })
 }
 
-/// Tries the first 12 bytes.
+/// Tries the bytes before the chunks.
 fn check_head(bytes: &[u8]) -> Result<(), Refused>
     ensures headed { OnOk result (IsHeaded bytes.now) }
-    ensures passed { OnOk result (BreaksNoneBelow bytes.now 4) }
+    ensures passed { OnOk result (BreaksNoneBelow bytes.now WaveRule.CutChunk) }
     ensures err { IfErr result (λ refused. IsRefusalOf bytes.now refused) }
 {
-    if bytes.len() < 12 || !has_part(bytes, 0, b"RIFF".as_slice()) {
-        return Err(broken(1, 0));
+    if bytes.len() < CHUNKS_AT || !has_part(bytes, 0, b"RIFF".as_slice()) {
+        return Err(broken(WaveRule::NoRiff, 0));
     }
-    if !has_part(bytes, 8, b"WAVE".as_slice()) {
-        return Err(broken(2, 8));
+    if !has_part(bytes, FORM_AT, b"WAVE".as_slice()) {
+        return Err(broken(WaveRule::OtherForm, FORM_AT));
     }
-    let counted = u64::from(number_at(bytes, 4)) + 8;
+    let counted = u64::from(number_at(bytes, SIZE_AT)) + FORM_AT as u64;
     if counted.abs_diff(bytes.len() as u64) > 1 {
-        return Err(broken(3, 4));
+        return Err(broken(WaveRule::OtherSize, SIZE_AT));
     }
     Ok(())
 }
@@ -133,13 +131,13 @@ fn check_head(bytes: &[u8]) -> Result<(), Refused>
 /// The format that the `fmt ` chunk says.
 fn find_format(bytes: &[u8], found: Option<Span>) -> Result<Format, Refused>
     requires found { AtMostOne bytes.now (codes "fmt ") found }
-    requires lower { BreaksNoneBelow bytes.now 6 }
+    requires lower { BreaksNoneBelow bytes.now WaveRule.NoFormat }
     ensures format { IfOk result (λ format. SaysFormat bytes.now format) }
-    ensures passed { OnOk result (BreaksNoneBelow bytes.now 13) }
+    ensures passed { OnOk result (BreaksNoneBelow bytes.now WaveRule.NoData) }
     ensures err { IfErr result (λ refused. IsRefusalOf bytes.now refused) }
 {
     let Some(span) = found else {
-        return Err(broken(6, bytes.len()));
+        return Err(broken(WaveRule::NoFormat, bytes.len()));
     };
     read_format(bytes, content_of(bytes, span), span.start)
 }
@@ -148,17 +146,17 @@ fn find_format(bytes: &[u8], found: Option<Span>) -> Result<Format, Refused>
 fn find_samples(bytes: &[u8], found: Option<Span>, format: Format) -> Result<Span, Refused>
     requires found { AtMostOne bytes.now (codes "data") found }
     requires format { SaysFormat bytes.now format }
-    requires lower { BreaksNoneBelow bytes.now 13 }
+    requires lower { BreaksNoneBelow bytes.now WaveRule.NoData }
     ensures samples { IfOk result (λ span. HasOne bytes.now (codes "data") span) }
     ensures whole { IfOk result (λ span. (span.end - span.start) % format.align ≡ 0) }
-    ensures passed { OnOk result (BreaksNoneBelow bytes.now 15) }
+    ensures passed { OnOk result (BreaksNoneBelow bytes.now WaveRule.ShortBext) }
     ensures err { IfErr result (λ refused. IsRefusalOf bytes.now refused) }
 {
     let Some(span) = found else {
-        return Err(broken(13, bytes.len()));
+        return Err(broken(WaveRule::NoData, bytes.len()));
     };
     if length_of(span) % usize::from(format.align) != 0 {
-        return Err(broken(14, head_before(span)));
+        return Err(broken(WaveRule::PartFrame, head_before(span)));
     }
     Ok(span)
 }
@@ -166,15 +164,15 @@ fn find_samples(bytes: &[u8], found: Option<Span>, format: Format) -> Result<Spa
 /// Tries whether the `bext` chunk is long enough, where there is one.
 fn check_bext(bytes: &[u8], found: Option<Span>) -> Result<(), Refused>
     requires found { AtMostOne bytes.now (codes "bext") found }
-    requires lower { BreaksNoneBelow bytes.now 15 }
+    requires lower { BreaksNoneBelow bytes.now WaveRule.ShortBext }
     ensures right { OnOk result (HasRightBext bytes.now found) }
     ensures err { IfErr result (λ refused. IsRefusalOf bytes.now refused) }
 {
     let Some(span) = found else {
         return Ok(());
     };
-    if length_of(span) < BEXT {
-        return Err(broken(15, head_before(span)));
+    if length_of(span) < BEXT_BYTES {
+        return Err(broken(WaveRule::ShortBext, head_before(span)));
     }
     Ok(())
 }

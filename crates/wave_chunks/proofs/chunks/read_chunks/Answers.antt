@@ -1,5 +1,5 @@
 use Rattle.std.proofs.Common.{sym, subst}
-use Rattle.wave_chunks.proofs.Walking.{walk_begins, walk_more, walk_ends, walk_cut, none_below_5}
+use Rattle.wave_chunks.proofs.Walking.{walk_begins, walk_more, walk_ends, walk_cut, none_below_repeated_chunk}
 use Rattle.wave_chunks.specs.Spans.{Walked}
 use Rattle.wave_chunks.proofs.chunks.read_chunks.Goals as goal
 
@@ -22,5 +22,5 @@ returns-clause-ok c = walk_ends c.args.bytes.now c.chunks.at c.chunks.chunks.ite
 
 pub returns-clause-passed : goal.returns-clause-passed
 returns-clause-passed c =
-    none_below_5 c.args.bytes.now c.chunks.chunks.items
+    none_below_repeated_chunk c.args.bytes.now c.chunks.chunks.items
     (walk_ends c.args.bytes.now c.chunks.at c.chunks.chunks.items c.chunks.invariant c.chunks-test.false) c.requires.lower

@@ -1,4 +1,5 @@
 use Rattle.std.proofs.Common.{◌≡◌, refl, rules, arith}
+use Rattle.file_model.specs.declared.wave_rules.WaveRule.TheVariants.{OtherRate, OtherDepth}
 use Rattle.file_model.specs.Format.{HasOtherRate, rate_of}
 use Rattle.file_model.proofs.Readings.{none_below_next}
 use Rattle.wave_chunks.proofs.Steps.{format_broken, format_right}
@@ -8,14 +9,14 @@ pub returns-clause-passed : goal.returns-clause-passed
 returns-clause-passed c =
     let bytes = c.args.bytes.now in let content = c.args.content.now in
     let rate : rate_of content ≡ 48000 = search rules in
-    none_below_next bytes 10 11 refl c.requires.lower
+    none_below_next bytes OtherRate OtherDepth refl c.requires.lower
     (format_right bytes content c.args.at HasOtherRate 4 c.requires.is_content (λ other. other rate))
 
 pub overflow_add-at : goal.overflow_add-at
 overflow_add-at c = let inside = c.requires.is_content.inside in let long = c.requires.long.long in omega (arith, inside, long)
 
-pub returns-then-number_at-ne-RATE-clause-err : goal.returns-then-number_at-ne-RATE-clause-err
-returns-then-number_at-ne-RATE-clause-err c =
+pub returns-then-number_at-ne-SAMPLE_RATE-clause-err : goal.returns-then-number_at-ne-SAMPLE_RATE-clause-err
+returns-then-number_at-ne-SAMPLE_RATE-clause-err c =
     let bytes = c.args.bytes.now in let content = c.args.content.now in
     let other : HasOtherRate content = search rules in
     c.broken.ensures bytes c.requires.lower (format_broken bytes content c.args.at HasOtherRate 4 _ c.requires.is_content other refl)

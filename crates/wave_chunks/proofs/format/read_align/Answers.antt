@@ -1,4 +1,5 @@
 use Rattle.std.proofs.Common.{◌≡◌, ◌*◌, ◌/◌, refl, rules, arith}
+use Rattle.file_model.specs.declared.wave_rules.WaveRule.TheVariants.{OtherAlign, NoData}
 use Rattle.file_model.specs.Format.{HasOtherAlign, channels_of, depth_of, align_of}
 use Rattle.file_model.proofs.Readings.{none_below_next}
 use Rattle.wave_chunks.proofs.Steps.{format_broken, format_right, other_align}
@@ -8,7 +9,7 @@ pub returns-clause-passed : goal.returns-clause-passed
 returns-clause-passed c =
     let bytes = c.args.bytes.now in let content = c.args.content.now in
     let is : align_of content ≡ channels_of content * depth_of content / 8 = search rules in
-    none_below_next bytes 12 13 refl c.requires.lower
+    none_below_next bytes OtherAlign NoData refl c.requires.lower
     (format_right bytes content c.args.at HasOtherAlign 12 c.requires.is_content (λ other. other is))
 
 pub overflow_add-at : goal.overflow_add-at

@@ -1,4 +1,5 @@
 use Rattle.std.proofs.Common.{◌≤◌, refl, rules, arith}
+use Rattle.file_model.specs.declared.wave_rules.WaveRule.TheVariants.{OtherChannels, OtherRate}
 use Rattle.file_model.specs.Format.{HasOtherChannels, channels_of}
 use Rattle.file_model.proofs.Readings.{none_below_next}
 use Rattle.wave_chunks.proofs.Steps.{format_right, not_other_channels}
@@ -9,7 +10,7 @@ returns-clause-passed c =
     let bytes = c.args.bytes.now in let content = c.args.content.now in
     let some : 1 ≤ channels_of content = search rules in
     let few : channels_of content ≤ 6 = search rules in
-    none_below_next bytes 9 10 refl c.requires.lower
+    none_below_next bytes OtherChannels OtherRate refl c.requires.lower
     (format_right bytes content c.args.at HasOtherChannels 2 c.requires.is_content (not_other_channels content some few))
 
 pub overflow_add-at : goal.overflow_add-at

@@ -1,7 +1,7 @@
 use Rattle.std.proofs.Common.{◌≡◌, ◌∙◌, sym}
 use Rattle.std.specs.Prelude.{None}
 use Rattle.file_model.specs.Chunks.{first_repeat}
-use Rattle.wave_chunks.proofs.Parting.{repeat_of, joined, format_part, samples_part, bext_part, none_below_6}
+use Rattle.wave_chunks.proofs.Parting.{repeat_of, joined, format_part, samples_part, bext_part, none_below_no_format}
 use Rattle.wave_chunks.proofs.parts.find_parts.Goals as goal
 
 none_repeats : (c : goal.In_default) → first_repeat c.requires.chunks.chunks ≡ None
@@ -30,4 +30,4 @@ pub returns-clause-bext : goal.returns-clause-bext
 returns-clause-bext c = bext_part c.args.bytes.now c.args.chunks.now c.requires.chunks c.named-bext.result.first c.named-bext.ensures.first (none_repeats c)
 
 pub returns-clause-passed : goal.returns-clause-passed
-returns-clause-passed c = none_below_6 c.args.bytes.now c.args.chunks.now c.requires.chunks (none_repeats c) c.requires.lower
+returns-clause-passed c = none_below_no_format c.args.bytes.now c.args.chunks.now c.requires.chunks (none_repeats c) c.requires.lower

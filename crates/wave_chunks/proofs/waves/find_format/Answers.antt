@@ -1,7 +1,7 @@
 use Rattle.std.proofs.Common.{subst}
 use Rattle.std.specs.Prelude.{codes}
 use Rattle.wave_chunks.specs.Spans.{AtMostOne}
-use Rattle.wave_chunks.proofs.Locating.{lies, format_content, none_below_7, says_result}
+use Rattle.wave_chunks.proofs.Locating.{lies, format_content, none_below_short_format, says_result}
 use Rattle.wave_chunks.proofs.waves.find_format.Goals as goal
 
 pub content_of-requires-clause-ordered : goal.content_of-requires-clause-ordered
@@ -19,7 +19,7 @@ read_format-requires-clause-is_content c =
 
 pub read_format-requires-clause-lower : goal.read_format-requires-clause-lower
 read_format-requires-clause-lower c =
-    none_below_7 c.args.bytes.now c.in-Some.span (subst (AtMostOne c.args.bytes.now (codes "fmt ")) c.in-Some.is c.requires.found) c.requires.lower
+    none_below_short_format c.args.bytes.now c.in-Some.span (subst (AtMostOne c.args.bytes.now (codes "fmt ")) c.in-Some.is c.requires.found) c.requires.lower
 
 pub returns-clause-format : goal.returns-clause-format
 returns-clause-format c =
