@@ -24,6 +24,6 @@ pub use limits::{MOST_CHANNELS, SAMPLE_RATE};
 pub use outcomes::{Broken, Failed, Memory, Outside, Refused, Rule};
 pub use plans::FaultPlan;
 pub use sinks::{MemSink, Sink, write_all};
-pub use sounds::{PcmSound, Scratch, Sound};
+pub use sounds::{PIECE, PcmSound, Scratch, Sound};
 pub use sources::{MemSource, ReadEnd, Source, Taken, read_up_to};
 pub use values::{Bytes, Cells, Energies, Text};

@@ -5,6 +5,9 @@ ghost use Rattle.lib_base.specs.Sounds.{IsSound, part, samples_of};
 use crate::{Cells, Memory};
 use std::alloc::Global;
 
+/// How many frames are filled at a time where a whole sound is gone over.
+pub const PIECE: usize = 4096;
+
 /// Room that a call of `fill` may write over.
 #[derive(Debug, Drop)]
 pub struct Scratch {

@@ -1,3 +1,1 @@
-pub mod Bounding
 pub mod Combining
-pub mod Peaking

@@ -1,7 +1,6 @@
 //! The energies of a sound.
 ghost use Rattle.std.specs.Prelude.{◌≡◌, ◌≤◌, ◌<◌, ◌+◌, ◌/◌, [], length, take, replicate, IfOk, OnOk};
 ghost use Rattle.lib_base.specs.Sounds.{IsSound, samples_of};
-ghost use Rattle.gate_blocks.specs.Bounds.{AreSegments};
 ghost use Rattle.gate_blocks.specs.Meters.{WasFed};
 ghost use Rattle.sound_model.specs.Segments as model;
 ghost use Rattle.sound_model.specs.Weighted.{weighted};
@@ -10,21 +9,16 @@ ghost use Rattle.measure_pool.specs.Totals.{AreTotals};
 
 use crate::lines::Line;
 use gate_blocks::{SegmentMeter, add_weighted, weight};
-use lib_base::{Energies, Memory, Scratch, Sound};
+use lib_base::{Energies, Memory, PIECE, Scratch, Sound};
 use std::alloc::Global;
-
-/// How many frames are filtered at a time.
-const PIECE: usize = 4096;
 
 /// How many frames a segment has.
 const SEGMENT: u64 = 4800;
 
 /// The weighted energies of a sound's segments of 4,800 frames (BS.1770-4 Annex 1).
 pub fn energies<S: Sound>(alloc: Global, sound: &S) -> Result<Energies, Memory>
-    ensures energies { IfOk result (λ energies.
+    ensures { IfOk result (λ energies.
         energies ≡ model.energies (S.depth sound.now) (S.frames sound.now) (S.lists sound.now)) }
-    ensures count { IfOk result (λ energies. length energies ≡ S.frames sound.now / 4800) }
-    ensures within { IfOk result (λ energies. AreSegments energies) }
 {
     let mut totals = zeros(alloc, (sound.frames() / SEGMENT) as usize)?;
     add_channels(alloc, sound, totals.as_mut_slice())?;
@@ -42,9 +36,8 @@ fn zeros(alloc: Global, count: usize) -> Result<Vec<u128>, Memory>
 fn add_channels<S: Sound>(alloc: Global, sound: &S, totals: &mut [u128]) -> Result<(), Memory>
     requires sound { IsSound (S.lists sound.now) (S.depth sound.now) (S.frames sound.now) }
     requires zeros { totals.old ≡ replicate (S.frames sound.now / 4800) 0 }
-    ensures energies { OnOk result
+    ensures { OnOk result
         (totals.new ≡ model.energies (S.depth sound.now) (S.frames sound.now) (S.lists sound.now)) }
-    ensures within { OnOk result (AreSegments totals.new) }
 {
     for channel in 0..sound.channels() {
         add_channel(alloc, sound, channel, totals)?;

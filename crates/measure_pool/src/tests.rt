@@ -1,7 +1,7 @@
 //! Worked sounds. A script in whole numbers computed their energies and peak from the definition.
 ghost use Rattle.std.specs.Prelude.{◌≡◌, ◌<◌, ◌^◌};
 
-use crate::{energies, peak};
+use crate::measure;
 use lib_base::{Memory, PcmSound};
 use std::alloc::Global;
 use std::test::Fail;
@@ -19,14 +19,14 @@ fn stereo(alloc: Global, frames: usize) -> Result<PcmSound, Memory>
 #[test]
 fn sounds_are_measured(rt: HostRuntime) -> Result<(), Fail> {
     let alloc = rt.alloc();
-    let two = energies(alloc, &stereo(alloc, 9700)?)?;
+    let two = measure(alloc, &stereo(alloc, 9700)?)?;
+    assert_eq!(rt; (two.channels, two.depth, two.frames), (2, 16, 9700));
     assert_eq!(rt;
-        two.as_slice(),
+        two.energies.as_slice(),
         [29_866_476_116_688_268_800, 23_515_800].as_slice()
     );
-    let sound = stereo(alloc, 4799)?;
-    assert_eq!(rt; peak(alloc, &sound)?, 38_340_132_864);
-    let none = energies(alloc, &sound)?;
-    assert_eq!(rt; none.len(), 0);
+    let none = measure(alloc, &stereo(alloc, 4799)?)?;
+    assert_eq!(rt; (none.frames, none.energies.len()), (4799, 0));
+    assert_eq!(rt; none.peak, 38_340_132_864);
     Ok(())
 }

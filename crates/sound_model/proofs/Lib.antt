@@ -1,6 +1,10 @@
+pub mod EnergyBounds
 mod GateRows
+pub mod Greatest
 pub mod LevelLaws
 pub mod LevelTable
+pub mod MeasuredBounds
+pub mod PeakBounds
 pub mod PeakRows
 pub mod PeakStretches
 pub mod RangeLaws

@@ -1,7 +1,8 @@
--- Stretches of places put together.
-use Rattle.std.proofs.Common.{◌≡◌, ◌≤◌, ◌+◌, ◌-◌, ◌∙◌, ℕ, zero, suc, List, max, ap, arith}
+-- Stretches of places, and channels, put together.
+use Rattle.std.proofs.Common.{◌≡◌, ◌≤◌, ◌<◌, ◌+◌, ◌-◌, ◌∙◌, ℕ, zero, suc, List, [], ◌∷◌, ◌++◌, take, length, get_or, max, ap, arith}
 use Rattle.std.specs.Prelude.{ℤ}
-use Rattle.sound_model.specs.Peaks.{peak_at, peak_from, peak_over}
+use Rattle.std.proofs.lemmas.List.{take_more}
+use Rattle.sound_model.specs.Peaks.{peak_at, peak_from, peak_over, peak_of}
 
 joined_max : (a b c : ℕ) → max (max a b) c ≡ max a (max b c)
 joined_max a b c = omega arith
@@ -31,3 +32,15 @@ peak_over-join depth samples from middle to before after =
     let meets : from + (middle - from) ≡ middle = omega arith in
     ap (λ (k : ℕ). peak_from depth samples from k) parts ∙ peak_from-add depth samples from (middle - from) (to - middle)
     ∙ ap (λ (k : ℕ). max (peak_from depth samples from (middle - from)) (peak_from depth samples k (to - middle))) meets
+
+peak_of-push : (depth frames : ℕ) (lists : List (List ℤ)) (samples : List ℤ)
+    → peak_of depth frames (lists ++ samples ∷ []) ≡ max (peak_of depth frames lists) (peak_over depth samples 0 (frames + 11))
+peak_of-push depth frames [] samples = omega arith
+peak_of-push depth frames (first ∷ lists) samples = let rest = peak_of-push depth frames lists samples in omega (arith, rest)
+
+-- one channel more raises the peak to its own, where that is greater
+pub peak_of-step : (depth frames : ℕ) (lists : List (List ℤ)) (c most own next : ℕ) → c < length lists
+    → most ≡ peak_of depth frames (take c lists) → own ≡ peak_over depth (get_or lists c []) 0 (frames + 11) → next ≡ max most own
+    → next ≡ peak_of depth frames (take (c + 1) lists)
+peak_of-step depth frames lists c most own next below was value is =
+    rw (take_more lists c [] below, peak_of-push depth frames (take c lists) (get_or lists c []), ← was, ← value) is

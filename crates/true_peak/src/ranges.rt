@@ -7,10 +7,7 @@ ghost use Rattle.true_peak.specs.Windows.{history_at};
 
 use crate::history::{History, REACH};
 use crate::runs::Run;
-use lib_base::{Scratch, Sound};
-
-/// How many samples are read at a time.
-const PIECE: usize = 480;
+use lib_base::{PIECE, Scratch, Sound};
 
 /// The greatest size at the places from `from` to before `to`, in units of 2^-36 of full scale.
 ///

@@ -1,7 +1,5 @@
-use Rattle.std.proofs.Common.{◌≡◌, ◌≤◌, ◌++◌, ◌∙◌, ◌/◌, ℕ, List, take, drop, length, ap, sym, subst, arith}
-use Rattle.std.specs.Prelude.{All}
-use Rattle.std.proofs.lemmas.List.{take-append-le, take_all, length-replicate}
-use Rattle.sound_model.specs.Segments.{greatest_energy}
+use Rattle.std.proofs.Common.{◌≡◌, ◌≤◌, ◌++◌, ◌∙◌, ℕ, List, take, drop, length, arith}
+use Rattle.std.proofs.lemmas.List.{take-append-le, take_all}
 use Rattle.measure_pool.proofs.segments.energies.Goals as goal
 use Rattle.measure_pool.proofs.segments.energies.Goals.{After-of}
 use Rattle.measure_pool.proofs.segments.energies.Given.{Over}
@@ -20,15 +18,5 @@ totals_given g c =
     ∙ front_of c.add_channels.new.totals (drop (length c.add_channels.new.totals) c.in_ok-totals.totals.items) c.in_ok-totals.totals.len
     (let long = c.as_mut_slice.ensures.len in omega (arith, as_long, long))
 
-pub returns-clause-energies : goal.returns-clause-energies
-returns-clause-energies g c = totals_given g c ∙ c.in_ok-add_channels.ensures.energies
-
-pub returns-clause-count : goal.returns-clause-count
-returns-clause-count g c =
-    ap length (totals_given g c) ∙ c.add_channels.auto.totals ∙ ap length (c.as_mut_slice.ensures.value ∙ c.in_ok-totals.ensures)
-    ∙ length-replicate {A = ℕ} (c.frames.result / 4800) 0 ∙ ap (λ (n : ℕ). n / 4800) c.frames.ensures
-
-pub returns-clause-within : goal.returns-clause-within
-returns-clause-within g c =
-    let Within : List ℕ → Type 0 = λ energies. All (λ e. e ≤ greatest_energy) energies in
-    subst Within (sym (totals_given g c)) c.in_ok-add_channels.ensures.within
+pub returns : goal.returns
+returns g c = totals_given g c ∙ c.in_ok-add_channels.ensures

@@ -5,7 +5,7 @@ use Rattle.true_peak.proofs.ranges.over_sound.Given as goal
 
 abbrev pub invariant-loop-place : goal.invariant-loop-place
 invariant-loop-place g l =
-    (l.from ≤ l.place) × (l.place ≤ l.to) × (length l.piece ≡ 480) × (length l.scratch.cells ≡ length l.initial.scratch.cells)
+    (l.from ≤ l.place) × (l.place ≤ l.to) × (length l.piece ≡ 4096) × (length l.scratch.cells ≡ length l.initial.scratch.cells)
     × ((first : ℕ) → first ≤ l.from → Heard l.initial.run (g.S.Sound.depth l.sound) (samples_of (g.S.Sound.lists l.sound) l.channel) first l.from
     → Heard l.run (g.S.Sound.depth l.sound) (samples_of (g.S.Sound.lists l.sound) l.channel) first l.place)
 

@@ -1,14 +1,31 @@
--- How great peaks are, and peaks over channels one after another.
-use Rattle.std.proofs.Common.{◌≡◌, ◌≤◌, ◌<◌, ◌+◌, ◌-◌, ◌*◌, ◌^◌, ℕ, zero, suc, Bool, true, false, nat_le, List, [], ◌∷◌, ◌++◌, take, length, get_or, max, sym, subst, inl, inr, arith, if◌then◌else◌}
+-- How great scaled samples and peaks are.
+use Rattle.std.proofs.Common.{◌≡◌, ◌≤◌, ◌+◌, ◌-◌, ◌*◌, ◌^◌, ℕ, zero, suc, Bool, true, false, nat_le, List, [], ◌∷◌, length, get_or, max, sym, subst, ap, ◌∙◌, inl, inr, arith, if◌then◌else◌}
 use Rattle.std.specs.Prelude.{ℤ, pos, ◌+ℤ◌, ◌*ℤ◌, unsigned_abs, All}
 use Rattle.std.proofs.lemmas.Bool.{cases_lt}
 use Rattle.std.proofs.lemmas.Int.{ints, unsigned_abs-mul}
-use Rattle.std.proofs.lemmas.Nat.{mul-le, pow_pos}
-use Rattle.std.proofs.lemmas.List.{get_or_past, take_more}
+use Rattle.std.proofs.lemmas.Nat.{mul-le, pow-add, pow_pos}
+use Rattle.std.proofs.lemmas.List.{get_or_past}
 use Rattle.std.proofs.lemmas.List.Elements.{All-get_or, All-head, All-tail}
 use Rattle.lib_base.specs.Sounds.{IsSample}
-use Rattle.sound_model.specs.Peaks.{scaled, sample_before, tapped, phase_size, peak_at, peak_from, peak_over, peak_of, first_phase, second_phase, third_phase, fourth_phase}
-use Rattle.true_peak.proofs.Scales.{scaled_small}
+use Rattle.sound_model.specs.Peaks.{scaled, sample_before, tapped, phase_size, peak_at, peak_from, peak_of, first_phase, second_phase, third_phase, fourth_phase}
+
+-- the greatest sample at its scale
+scale_of_size : (depth : ℕ) → 4 ≤ depth → depth ≤ 24 → 2 ^ (depth - 1) * 2 ^ (24 - depth) ≡ 2 ^ 23
+scale_of_size depth low high =
+    let sum : (depth - 1) + (24 - depth) ≡ 23 = omega arith in
+    sym (pow-add 2 (depth - 1) (24 - depth)) ∙ ap (λ (n : ℕ). 2 ^ n) sum
+
+size_of_sample : (depth : ℕ) (sample : ℤ) → IsSample depth sample → unsigned_abs sample ≤ 2 ^ (depth - 1)
+size_of_sample depth sample within = omega (arith, ints)
+
+pub scaled_small : (depth : ℕ) (sample : ℤ) → 4 ≤ depth → depth ≤ 24 → IsSample depth sample → unsigned_abs (scaled depth sample) ≤ 2 ^ 23
+unfolding scaled
+scaled_small depth sample low high within =
+    let size = size_of_sample depth sample within in
+    let product = mul-le (unsigned_abs sample) (2 ^ (24 - depth)) (2 ^ (depth - 1)) (2 ^ (24 - depth)) size (omega arith) in
+    let greatest = scale_of_size depth low high in
+    let apart = unsigned_abs-mul sample (pos (2 ^ (24 - depth))) in
+    omega arith
 
 silence_is_sample : (depth : ℕ) → IsSample depth (pos 0)
 silence_is_sample depth = let some = pow_pos (depth - 1) in (omega (arith, ints, some), omega (arith, ints, some))
@@ -88,15 +105,3 @@ peak_of_within depth frames (samples ∷ lists) low high all =
     let OfChannel : List ℤ → Type 0 = λ xs. All (IsSample depth) xs in
     let here = peak_from_within depth samples 0 (frames + 11 - 0) low high (All-head OfChannel samples lists all) in
     let rest = peak_of_within depth frames lists low high (All-tail OfChannel samples lists all) in omega (arith, here, rest)
-
-peak_of-push : (depth frames : ℕ) (lists : List (List ℤ)) (samples : List ℤ)
-    → peak_of depth frames (lists ++ samples ∷ []) ≡ max (peak_of depth frames lists) (peak_over depth samples 0 (frames + 11))
-peak_of-push depth frames [] samples = omega arith
-peak_of-push depth frames (first ∷ lists) samples = let rest = peak_of-push depth frames lists samples in omega (arith, rest)
-
--- one channel more raises the peak to its own, where that is greater
-pub peak_of-step : (depth frames : ℕ) (lists : List (List ℤ)) (c most own next : ℕ) → c < length lists
-    → most ≡ peak_of depth frames (take c lists) → own ≡ peak_over depth (get_or lists c []) 0 (frames + 11) → next ≡ max most own
-    → next ≡ peak_of depth frames (take (c + 1) lists)
-peak_of-step depth frames lists c most own next below was value is =
-    rw (take_more lists c [] below, peak_of-push depth frames (take c lists) (get_or lists c []), ← was, ← value) is
