@@ -6,6 +6,8 @@ use Rattle.std.proofs.Math.Nat.{div-add-mod, div-le_self}
 use Rattle.std.proofs.lemmas.Nat.{le_bytes_4}
 use Rattle.std.proofs.lemmas.List.{take-append-drop, drop-drop}
 use Rattle.lib_base.specs.Sounds.{part, IsSample, IsSound}
+use Rattle.lib_base.specs.declared.limits.TheConstants.{MOST_CHANNELS}
+use Rattle.file_model.specs.declared.wave_fields.TheConstants.{SIZE_AT, FORM_AT, CHUNKS_AT}
 use Rattle.file_model.specs.Channels.{first_channels}
 use Rattle.file_model.specs.Chunks.{Chunk, Placed, Begins, named_from, next_head, named, number_at, four_bytes}
 use Rattle.file_model.specs.Format.{IsFormat, channels_of, depth_of, align_of}
@@ -52,14 +54,14 @@ each_content bytes (chunk ∷ chunks) rest are begins =
     (record { are_bytes = of_bytes; short = begins.2.content_fits }, each_content begins.1 chunks rest more begins.5)
 
 pub content_named : (bytes : List ℕ) (chunks : List Chunk) (name : List ℕ) (placed : Placed) (more : List Placed) → AreBytes bytes
-    → Begins (drop 12 bytes) chunks [] → named name chunks ≡ placed ∷ more → IsContent placed.content
+    → Begins (drop CHUNKS_AT bytes) chunks [] → named name chunks ≡ placed ∷ more → IsContent placed.content
 content_named bytes chunks name placed more are begins found =
     (subst (EachPlaced IsContent) found
-    (each_named IsContent 12 name chunks (each_content (drop 12 bytes) chunks [] (AreBytes-drop 12 bytes are) begins))).0
+    (each_named IsContent CHUNKS_AT name chunks (each_content (drop CHUNKS_AT bytes) chunks [] (AreBytes-drop CHUNKS_AT bytes are) begins))).0
 
 -- ---- the sound
 
-made_sound : (k d n : ℕ) (samples : List ℕ) → IsDepth d → 1 ≤ k → k ≤ 6 → n < 2 ^ 60 → length samples ≡ d / 8 * (k * n) → AreBytes samples
+made_sound : (k d n : ℕ) (samples : List ℕ) → IsDepth d → 1 ≤ k → k ≤ MOST_CHANNELS → n < 2 ^ 60 → length samples ≡ d / 8 * (k * n) → AreBytes samples
     → IsSound (first_channels k k n (samples_in d (k * n) samples)) d n
 made_sound k d n samples known some few short whole are =
     let ys = samples_in d (k * n) samples in
@@ -112,19 +114,19 @@ four_bytes-number_at bytes at are inside =
     le_bytes_4 (part bytes at 4) (number_at bytes at) (let left = length-drop at bytes in length-take 4 (drop at bytes) ∙ omega (arith, left, inside))
     (AreBytes-part bytes at 4 are) refl
 
-head_written : (bytes : List ℕ) → AreBytes bytes → 12 ≤ length bytes → part bytes 0 4 ≡ codes "RIFF" → part bytes 8 4 ≡ codes "WAVE"
-    → bytes ≡ codes "RIFF" ++ (four_bytes (number_at bytes 4) ++ (codes "WAVE" ++ drop 12 bytes))
+head_written : (bytes : List ℕ) → AreBytes bytes → CHUNKS_AT ≤ length bytes → part bytes 0 4 ≡ codes "RIFF" → part bytes FORM_AT 4 ≡ codes "WAVE"
+    → bytes ≡ codes "RIFF" ++ (four_bytes (number_at bytes 4) ++ (codes "WAVE" ++ drop CHUNKS_AT bytes))
 head_written bytes are long riff form =
     part_and_rest bytes 0 4 _ _ riff (part_and_rest bytes 4 4 _ _ (sym (four_bytes-number_at bytes 4 are (omega (arith, long))))
     (part_and_rest bytes 8 4 _ _ form refl))
 
 -- bytes with the head, chunks, format and whole frames of a wave are a wave
-pub wave_made : (bytes : List ℕ) (chunks : List Chunk) (format samples : Placed) → AreBytes bytes → 12 ≤ length bytes
-    → part bytes 0 4 ≡ codes "RIFF" → part bytes 8 4 ≡ codes "WAVE" → IsNear (number_at bytes 4) (length bytes)
-    → Begins (drop 12 bytes) chunks [] → named (codes "fmt ") chunks ≡ format ∷ [] → named (codes "data") chunks ≡ samples ∷ []
+pub wave_made : (bytes : List ℕ) (chunks : List Chunk) (format samples : Placed) → AreBytes bytes → CHUNKS_AT ≤ length bytes
+    → part bytes 0 4 ≡ codes "RIFF" → part bytes FORM_AT 4 ≡ codes "WAVE" → IsNear (number_at bytes SIZE_AT) (length bytes)
+    → Begins (drop CHUNKS_AT bytes) chunks [] → named (codes "fmt ") chunks ≡ format ∷ [] → named (codes "data") chunks ≡ samples ∷ []
     → AtMostOneBext (named (codes "bext") chunks)
     → IsFormat format.content (channels_of format.content) (depth_of format.content)
-    → 1 ≤ channels_of format.content → channels_of format.content ≤ 6 → length samples.content % align_of format.content ≡ 0
+    → 1 ≤ channels_of format.content → channels_of format.content ≤ MOST_CHANNELS → length samples.content % align_of format.content ≡ 0
     → IsWaveOf bytes chunks (sound_in format.content samples.content)
 wave_made bytes chunks format samples are long riff form near begins one_format one_data one_bext is some few whole =
     let k = channels_of format.content in
@@ -134,7 +136,7 @@ wave_made bytes chunks format samples are long riff form near begins one_format 
     let size = frames_whole (d / 8) k (length samples.content) (align_of format.content) (is.align_field ∙ align_is k d is.depth_known) whole in
     record {
       size = number_at bytes 4;
-      body = drop 12 bytes;
+      body = drop CHUNKS_AT bytes;
       written = head_written bytes are long riff form;
       size_fits = number_fits bytes 4 are;
       near = near;

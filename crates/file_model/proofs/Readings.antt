@@ -1,5 +1,6 @@
 -- A file reads as one thing.
 use Rattle.lib_base.specs.Sounds.{part}
+use Rattle.file_model.specs.declared.wave_fields.TheConstants.{SIZE_AT, FORM_AT, CHUNKS_AT, TAG_AT, CHANNELS_AT, RATE_AT, ALIGN_AT, DEPTH_AT}
 use Rattle.file_model.specs.Wave.{IsNear}
 use Rattle.std.proofs.Common.{◌≡◌, ◌≢◌, ◌<◌, ◌+◌, ◌-◌, ◌⊎◌, inl, inr, ℕ, List, [], ◌∷◌, get_or, length, drop, refl, ap, ◌∙◌, sym, subst, arith}
 use Rattle.std.specs.Prelude.{codes, Option, Some}
@@ -26,7 +27,7 @@ one_some found p q h k = cc
 
 one_cut : (bytes : List ℕ) → OnePlace (IsCutAt bytes)
 one_cut bytes p q h k =
-    let rests = (Begins_unique h.0 k.0 (drop 12 bytes) h.1 k.1 h.4 k.4 h.2 k.2).1 in
+    let rests = (Begins_unique h.0 k.0 (drop CHUNKS_AT bytes) h.1 k.1 h.4 k.4 h.2 k.2).1 in
     h.5 ∙ ap (λ (rest : List ℕ). length bytes - length rest) rests ∙ sym k.5
 
 one_format : (Wrong : List ℕ → Type 0) (offset : ℕ) (chunks : List Chunk) → OnePlace (FormatIs Wrong offset chunks)
@@ -43,7 +44,7 @@ one_short_bext chunks p q h k = h.3 ∙ ap (λ (bext : Placed). bext.head) (one_
 one_of_chunks : (bytes : List ℕ) (Fact : List Chunk → ℕ → Type 0) → ((chunks : List Chunk) → OnePlace (Fact chunks))
     → OnePlace (λ place. OfChunks bytes (λ chunks. Fact chunks place))
 one_of_chunks bytes Fact one p q h k =
-    one h.0 p q h.2 (subst (λ (chunks : List Chunk). Fact chunks q) (chunks_unique k.0 h.0 (drop 12 bytes) k.1 h.1) k.2)
+    one h.0 p q h.2 (subst (λ (chunks : List Chunk). Fact chunks q) (chunks_unique k.0 h.0 (drop CHUNKS_AT bytes) k.1 h.1) k.2)
 
 one_wrong : (bytes : List ℕ) (Wrong : List ℕ → Type 0) (offset : ℕ) → OnePlace (λ place. OfChunks bytes (λ chunks. FormatIs Wrong offset chunks place))
 one_wrong bytes Wrong offset = one_of_chunks bytes (FormatIs Wrong offset) (one_format Wrong offset)
@@ -53,18 +54,18 @@ one_lacking bytes name = one_of_chunks bytes (λ chunks. Lacks name chunks (leng
 
 -- a rule is broken at one place at most
 pub one_place : (bytes : List ℕ) (rule : WaveRule) → OnePlace (Breaks bytes rule)
-one_place bytes NoRiff = one_fixed ((length bytes < 12) ⊎ (part bytes 0 4 ≢ codes "RIFF")) 0
-one_place bytes OtherForm = one_fixed (part bytes 8 4 ≢ codes "WAVE") 8
-one_place bytes OtherSize = one_fixed (¬ IsNear (number_at bytes 4) (length bytes)) 4
+one_place bytes NoRiff = one_fixed ((length bytes < CHUNKS_AT) ⊎ (part bytes 0 4 ≢ codes "RIFF")) 0
+one_place bytes OtherForm = one_fixed (part bytes FORM_AT 4 ≢ codes "WAVE") FORM_AT
+one_place bytes OtherSize = one_fixed (¬ IsNear (number_at bytes SIZE_AT) (length bytes)) SIZE_AT
 one_place bytes CutChunk = one_cut bytes
 one_place bytes RepeatedChunk = one_of_chunks bytes (λ chunks place. first_repeat chunks ≡ Some place) (λ chunks. one_some (first_repeat chunks))
 one_place bytes NoFormat = one_lacking bytes (codes "fmt ")
-one_place bytes ShortFormat = one_wrong bytes IsShortFormat 0
-one_place bytes OtherFormat = one_wrong bytes IsOtherFormat 0
-one_place bytes OtherChannels = one_wrong bytes HasOtherChannels 2
-one_place bytes OtherRate = one_wrong bytes HasOtherRate 4
-one_place bytes OtherDepth = one_wrong bytes HasOtherDepth 14
-one_place bytes OtherAlign = one_wrong bytes HasOtherAlign 12
+one_place bytes ShortFormat = one_wrong bytes IsShortFormat TAG_AT
+one_place bytes OtherFormat = one_wrong bytes IsOtherFormat TAG_AT
+one_place bytes OtherChannels = one_wrong bytes HasOtherChannels CHANNELS_AT
+one_place bytes OtherRate = one_wrong bytes HasOtherRate RATE_AT
+one_place bytes OtherDepth = one_wrong bytes HasOtherDepth DEPTH_AT
+one_place bytes OtherAlign = one_wrong bytes HasOtherAlign ALIGN_AT
 one_place bytes NoData = one_lacking bytes (codes "data")
 one_place bytes PartFrame = one_of_chunks bytes HasPartFrame one_part_frame
 one_place bytes ShortBext = one_of_chunks bytes HasShortBext one_short_bext

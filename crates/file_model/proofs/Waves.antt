@@ -1,9 +1,11 @@
 -- A wave file has one list of chunks and one sound, and breaks no rule.
-use Rattle.std.proofs.Common.{◌≡◌, ◌<◌, ◌≤◌, ◌^◌, ◌*◌, ◌/◌, ◌%◌, inl, inr, ℕ, zero, suc, Bool, true, false, List, [], ◌∷◌, ◌++◌, length, drop, refl, ap, ◌∙◌, sym, subst, arith}
+use Rattle.std.proofs.Common.{◌≡◌, ◌<◌, ◌≤◌, ◌^◌, ◌*◌, ◌/◌, ◌%◌, inl, inr, ℕ, zero, suc, List, [], ◌∷◌, ◌++◌, length, drop, refl, ap, ◌∙◌, sym, subst, arith}
 use Rattle.std.specs.Prelude.{ℤ, flat_map, codes, Option, Some, None}
 use Rattle.std.proofs.lemmas.Nat.{from_le_bytes-to_le_bytes_4}
 use Rattle.std.proofs.Math.Nat.{mul-div_cancel_left, mul-mod_left}
 use Rattle.lib_base.specs.Sounds.{part, IsSample, IsSound}
+use Rattle.lib_base.specs.declared.limits.TheConstants.{MOST_CHANNELS}
+use Rattle.file_model.specs.declared.wave_fields.TheConstants.{FORM_AT, CHUNKS_AT, TAG_AT, CHANNELS_AT, RATE_AT, ALIGN_AT, DEPTH_AT, BEXT_BYTES}
 use Rattle.file_model.specs.Channels.{first_channels}
 use Rattle.file_model.specs.Chunks.{Chunk, Placed, Begins, named, second_head, earlier, first_repeat, number_at, four_bytes}
 use Rattle.file_model.specs.Format.{IsFormat, channels_of, depth_of, align_of, IsShortFormat, IsOtherFormat, HasOtherChannels, HasOtherRate, HasOtherDepth, HasOtherAlign}
@@ -87,24 +89,24 @@ sound_of_contents format samples sound is_format holds is_sound =
     same_pcm sound (sound_in format samples) (sym is_format.depth_field) (sym frames)
     (sym (listed (channels_of format) (depth_of format) (length samples / align_of format) is_format.channels_field is_format.depth_field frames))
 
--- the parts of a wave's first 12 bytes
+-- the parts of a wave before its chunks
 pub record HasHead (bytes : List ℕ) (size : ℕ) (body : List ℕ) : Type 0 where
   pub riff : part bytes 0 4 ≡ codes "RIFF"
   pub number : number_at bytes 4 ≡ size
-  pub form : part bytes 8 4 ≡ codes "WAVE"
-  pub rest : drop 12 bytes ≡ body
-  pub long : 12 ≤ length bytes
+  pub form : part bytes FORM_AT 4 ≡ codes "WAVE"
+  pub rest : drop CHUNKS_AT bytes ≡ body
+  pub long : CHUNKS_AT ≤ length bytes
 
 pub head_of : (bytes body : List ℕ) (size : ℕ) → size < 2 ^ 32 → bytes ≡ codes "RIFF" ++ (four_bytes size ++ (codes "WAVE" ++ body)) → HasHead bytes size body
 head_of bytes body size fits is = record {
   riff = ap (λ (xs : List ℕ). part xs 0 4) is;
   number = ap (λ (xs : List ℕ). number_at xs 4) is ∙ from_le_bytes-to_le_bytes_4 size fits;
   form = ap (λ (xs : List ℕ). part xs 8 4) is;
-  rest = ap (drop 12) is;
+  rest = ap (drop CHUNKS_AT) is;
   long = let whole = ap length is in omega (arith, whole);
 }
 
-pub chunks_of_wave : (bytes : List ℕ) (chunks : List Chunk) (sound : Pcm) → IsWaveOf bytes chunks sound → Begins (drop 12 bytes) chunks []
+pub chunks_of_wave : (bytes : List ℕ) (chunks : List Chunk) (sound : Pcm) → IsWaveOf bytes chunks sound → Begins (drop CHUNKS_AT bytes) chunks []
 chunks_of_wave bytes chunks sound wave =
     subst (λ (xs : List ℕ). Begins xs chunks []) (sym (head_of bytes wave.body wave.size wave.size_fits wave.written).rest) wave.spelled
 
@@ -114,7 +116,7 @@ one_placed found a b h k = cc
 -- a file is a wave of one list of chunks and one sound
 pub IsWaveOf_unique : (bytes : List ℕ) (some others : List Chunk) (a b : Pcm) → IsWaveOf bytes some a → IsWaveOf bytes others b → (some ≡ others) × (a ≡ b)
 IsWaveOf_unique bytes some others a b one other =
-    let same : some ≡ others = chunks_unique some others (drop 12 bytes) (chunks_of_wave bytes some a one) (chunks_of_wave bytes others b other) in
+    let same : some ≡ others = chunks_unique some others (drop CHUNKS_AT bytes) (chunks_of_wave bytes some a one) (chunks_of_wave bytes others b other) in
     let format : one.format ≡ other.format =
     one_placed _ _ _ one.one_format (ap (named (codes "fmt ")) same ∙ other.one_format) in
     let data_chunk : one.data_chunk ≡ other.data_chunk =
@@ -163,7 +165,7 @@ not_other content channels depth is (inr subformat) =
       | inr extensible ↦ subformat.1 extensible.2
     ]
 
-not_other_channels : (content : List ℕ) (channels depth : ℕ) → IsFormat content channels depth → 1 ≤ channels → channels ≤ 6 → HasOtherChannels content → ⊥
+not_other_channels : (content : List ℕ) (channels depth : ℕ) → IsFormat content channels depth → 1 ≤ channels → channels ≤ MOST_CHANNELS → HasOtherChannels content → ⊥
 not_other_channels content channels depth is some few (inl none) = let said = is.channels_field in omega (arith, said, some, none)
 not_other_channels content channels depth is some few (inr many) = let said = is.channels_field in omega (arith, said, few, many)
 
@@ -187,7 +189,7 @@ not_part_frame format samples sound is holds =
     whole_frames (sound.depth / 8) (length sound.lists) sound.frames _ _ (length_of_sound sound samples is.depth_known holds)
     (is.align_field ∙ align_is (length sound.lists) sound.depth is.depth_known)
 
-not_short_bext : (found : List Placed) (bext : Placed) → AtMostOneBext found → found ≡ bext ∷ [] → length bext.content < 602 → ⊥
+not_short_bext : (found : List Placed) (bext : Placed) → AtMostOneBext found → found ≡ bext ∷ [] → length bext.content < BEXT_BYTES → ⊥
 not_short_bext found bext (inl none) h short = none_and_one found bext none h
 not_short_bext found bext (inr (other, is, long)) h short =
     let same = ap (λ (p : Placed). length p.content) (one_placed found bext other h is) in omega (arith, long, short, same)
@@ -204,7 +206,7 @@ part_frame_is_right chunks place format samples one_format one_data whole (found
 -- what holds of the chunks of a wave is said of its own chunks
 of_chunks : (bytes : List ℕ) (chunks : List Chunk) (sound : Pcm) (Fact : List Chunk → Type 0) → IsWaveOf bytes chunks sound → OfChunks bytes Fact → Fact chunks
 of_chunks bytes chunks sound Fact wave (found, begins, holds) =
-    subst Fact (chunks_unique found chunks (drop 12 bytes) begins (chunks_of_wave bytes chunks sound wave)) holds
+    subst Fact (chunks_unique found chunks (drop CHUNKS_AT bytes) begins (chunks_of_wave bytes chunks sound wave)) holds
 
 -- the `fmt ` chunk of a wave is not wrong
 format_right : (bytes : List ℕ) (chunks : List Chunk) (sound : Pcm) (Wrong : List ℕ → Type 0) (offset place : ℕ) (wave : IsWaveOf bytes chunks sound)
@@ -222,25 +224,25 @@ breaks_nothing bytes chunks sound OtherSize place wave broken =
     broken.0
     (subst (λ (n : ℕ). IsNear n (length bytes)) (sym (head_of bytes wave.body wave.size wave.size_fits wave.written).number) wave.near)
 breaks_nothing bytes chunks sound CutChunk place wave broken =
-    not_whole_and_cut broken.0 chunks (drop 12 bytes) broken.1 broken.4 broken.3 broken.2 (chunks_of_wave bytes chunks sound wave)
+    not_whole_and_cut broken.0 chunks (drop CHUNKS_AT bytes) broken.1 broken.4 broken.3 broken.2 (chunks_of_wave bytes chunks sound wave)
 breaks_nothing bytes chunks sound RepeatedChunk place wave broken =
     not_some place (first_repeat chunks) (no_repeat_of _ _ _ wave.format wave.data_chunk wave.one_format wave.one_data wave.one_bext)
     (of_chunks bytes chunks sound (λ (cs : List Chunk). first_repeat cs ≡ Some place) wave broken)
 breaks_nothing bytes chunks sound NoFormat place wave broken =
     none_and_one _ wave.format (of_chunks bytes chunks sound (λ (cs : List Chunk). Lacks (codes "fmt ") cs (length bytes) place) wave broken).0 wave.one_format
 breaks_nothing bytes chunks sound ShortFormat place wave broken =
-    format_right bytes chunks sound IsShortFormat 0 place wave (not_short wave.format.content _ _ wave.is_format) broken
+    format_right bytes chunks sound IsShortFormat TAG_AT place wave (not_short wave.format.content _ _ wave.is_format) broken
 breaks_nothing bytes chunks sound OtherFormat place wave broken =
-    format_right bytes chunks sound IsOtherFormat 0 place wave (not_other wave.format.content _ _ wave.is_format) broken
+    format_right bytes chunks sound IsOtherFormat TAG_AT place wave (not_other wave.format.content _ _ wave.is_format) broken
 breaks_nothing bytes chunks sound OtherChannels place wave broken =
-    format_right bytes chunks sound HasOtherChannels 2 place wave
+    format_right bytes chunks sound HasOtherChannels CHANNELS_AT place wave
     (not_other_channels wave.format.content _ _ wave.is_format wave.is_sound.has_channel wave.is_sound.few_channels) broken
 breaks_nothing bytes chunks sound OtherRate place wave broken =
-    format_right bytes chunks sound HasOtherRate 4 place wave (λ other. other wave.is_format.rate_field) broken
+    format_right bytes chunks sound HasOtherRate RATE_AT place wave (λ other. other wave.is_format.rate_field) broken
 breaks_nothing bytes chunks sound OtherDepth place wave broken =
-    format_right bytes chunks sound HasOtherDepth 14 place wave (not_other_depth wave.format.content _ _ wave.is_format) broken
+    format_right bytes chunks sound HasOtherDepth DEPTH_AT place wave (not_other_depth wave.format.content _ _ wave.is_format) broken
 breaks_nothing bytes chunks sound OtherAlign place wave broken =
-    format_right bytes chunks sound HasOtherAlign 12 place wave (not_other_align wave.format.content _ _ wave.is_format) broken
+    format_right bytes chunks sound HasOtherAlign ALIGN_AT place wave (not_other_align wave.format.content _ _ wave.is_format) broken
 breaks_nothing bytes chunks sound NoData place wave broken =
     none_and_one _ wave.data_chunk (of_chunks bytes chunks sound (λ (cs : List Chunk). Lacks (codes "data") cs (length bytes) place) wave broken).0 wave.one_data
 breaks_nothing bytes chunks sound PartFrame place wave broken =

@@ -2,8 +2,8 @@
 //!
 //! `specs/` says which bytes are a wave of which samples, and what a file reads as: accepted with
 //! its samples, or broken by a rule at a place. `proofs/` checks worked files against the
-//! definitions, and shows that a file reads as one thing only. Here stand the names that definitions
-//! and code share: of the rules, and of the places of fields.
+//! definitions, and shows that a file reads as one thing only. Here stand the names that
+//! definitions and code share: of the rules, and of the places of fields.
 #![tactic(auto)]
 
 pub mod wave_fields;

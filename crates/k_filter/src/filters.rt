@@ -6,6 +6,7 @@ ghost use Rattle.sound_model.specs.Weighted.{shelf, high_pass, next_output, held
 ghost use Rattle.k_filter.specs.Bounds.{IsWithin};
 
 use crate::sections::{Recent, high_pass_output, shelf_output};
+use lib_base::SAMPLE_RATE;
 
 /// The K-weighting filter of one channel, at 48,000 Hz.
 #[derive(Clone, Copy, Debug)]
@@ -23,10 +24,10 @@ impl Filter {
 
     /// A filter for a channel of this rate, in frames a second, which was fed nothing so far.
     pub fn new(rate: u32) -> Filter
-        requires { rate ≡ 48000 }
+        requires { rate ≡ SAMPLE_RATE }
         ensures { (depth : ℕ) → WasFed result depth [] }
     {
-        prove!(rate == 48_000);
+        prove!(rate == SAMPLE_RATE);
         let silence = Recent { last: 0, before: 0 };
         Filter {
             inputs: silence,

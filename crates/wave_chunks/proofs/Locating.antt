@@ -7,9 +7,11 @@ use Rattle.std.specs.Cmp.Lexicographic.{pointwise}
 use Rattle.std.proofs.lemmas.List.{drop-drop}
 use Rattle.lib_base.specs.Sounds.{part}
 use Rattle.lib_base.specs.declared.files.Span.{Span}
+use Rattle.lib_base.specs.declared.limits.TheConstants.{MOST_CHANNELS}
+use Rattle.file_model.specs.declared.wave_fields.TheConstants.{CHUNKS_AT, BEXT_BYTES}
 use Rattle.file_model.specs.declared.wave_rules.WaveRule.TheVariants.{NoFormat, ShortFormat, NoData, PartFrame, ShortBext}
 use Rattle.file_model.specs.Chunks.{Chunk, Placed, Begins, named, named_from, next_head}
-use Rattle.file_model.specs.Rules.{Lacks, HasPartFrame, HasShortBext, BreaksNoneBelow}
+use Rattle.file_model.specs.Rules.{OfChunks, Lacks, HasPartFrame, HasShortBext, BreaksNoneBelow}
 use Rattle.file_model.specs.Format.{IsFormat, channels_of, depth_of, align_of}
 use Rattle.file_model.proofs.Readings.{none_below_next}
 use Rattle.file_model.proofs.Spellings.{chunks_unique, reads_back}
@@ -67,7 +69,7 @@ taken_back start count = omega arith
 
 pub lies : (bytes name : List ℕ) (span : Span) (has : HasOne bytes name span) → Lies bytes span has.placed
 lies bytes name span has =
-    let located = (subst (EachLocated bytes) has.one (each_located bytes name 12 has.chunks [] has.whole)).0 in
+    let located = (subst (EachLocated bytes) has.one (each_located bytes name CHUNKS_AT has.chunks [] has.whole)).0 in
     let placed = has.placed in
     subst (λ (s : Span). Lies bytes s placed) (sym has.span_is) (record {
       start = refl;
@@ -95,10 +97,10 @@ format_content bytes span content has is =
     }
 
 lacks_and_has : (name : List ℕ) (bytes : List ℕ) (span : Span) (place : ℕ) → HasOne bytes name span
-    → (chunks : List Chunk) × Begins (drop 12 bytes) chunks [] × Lacks name chunks (length bytes) place → ⊥
+    → OfChunks bytes (λ chunks. Lacks name chunks (length bytes) place) → ⊥
 lacks_and_has name bytes span place has lacks =
     empty_and_one (named name has.chunks) has.placed
-    (ap (named name) (chunks_unique has.chunks lacks.0 (drop 12 bytes) has.whole lacks.1) ∙ lacks.2.0) has.one
+    (ap (named name) (chunks_unique has.chunks lacks.0 (drop CHUNKS_AT bytes) has.whole lacks.1) ∙ lacks.2.0) has.one
   where
     empty_and_one : (found : List Placed) (placed : Placed) → found ≡ [] → found ≡ placed ∷ [] → ⊥
     empty_and_one found placed h k = cc
@@ -110,11 +112,11 @@ pub none_below_part_frame : (bytes : List ℕ) (span : Span) → HasOne bytes (c
 none_below_part_frame bytes span has lower = none_below_next bytes NoData PartFrame refl lower (λ place. lacks_and_has (codes "data") bytes span place has)
 
 pub says_format : (bytes content : List ℕ) (at : ℕ) (format : Format) → IsFormatContent bytes content at
-    → IsFormat content (channels_of content) (depth_of content) → 1 ≤ channels_of content → channels_of content ≤ 6
+    → IsFormat content (channels_of content) (depth_of content) → 1 ≤ channels_of content → channels_of content ≤ MOST_CHANNELS
     → format.channels ≡ channels_of content → format.depth ≡ depth_of content → format.align ≡ align_of content → SaysFormat bytes format
 says_format bytes content at format is is_format some few channels depth align =
     let Says : List ℕ → Type 0 =
-    λ said. IsFormat said (channels_of said) (depth_of said) × (1 ≤ channels_of said) × (channels_of said ≤ 6) × (format.channels ≡ channels_of said)
+    λ said. IsFormat said (channels_of said) (depth_of said) × (1 ≤ channels_of said) × (channels_of said ≤ MOST_CHANNELS) × (format.channels ≡ channels_of said)
     × (format.depth ≡ depth_of said) × (format.align ≡ align_of said) in
     let of_placed : Says is.format.content = subst Says is.content_is (is_format, some, few, channels, depth, align) in
     record {
@@ -151,7 +153,7 @@ part_frame_is bytes span format says has =
 
 pub part_frame : (bytes : List ℕ) (span : Span) (format : Format) (place : ℕ) → SaysFormat bytes format → HasOne bytes (codes "data") span
     → (span.end - span.start) % format.align ≢ 0 → place ≡ span.start - 8
-    → (chunks : List Chunk) × Begins (drop 12 bytes) chunks [] × HasPartFrame chunks place
+    → OfChunks bytes (λ chunks. HasPartFrame chunks place)
 part_frame bytes span format place says has part is =
     let start = (lies bytes (codes "data") span has).start in (
       has.chunks,
@@ -159,7 +161,7 @@ part_frame bytes span format place says has part is =
       (
         says.placed,
         has.placed,
-        ap (named (codes "fmt ")) (chunks_unique has.chunks says.chunks (drop 12 bytes) has.whole says.whole) ∙ says.one,
+        ap (named (codes "fmt ")) (chunks_unique has.chunks says.chunks (drop CHUNKS_AT bytes) has.whole says.whole) ∙ says.one,
         has.one,
         (λ none. part (part_frame_is bytes span format says has ∙ none)),
         is ∙ omega (arith, start),
@@ -170,12 +172,12 @@ pub none_below_short_bext : (bytes : List ℕ) (span : Span) (format : Format) �
     → (span.end - span.start) % format.align ≡ 0 → BreaksNoneBelow bytes NoData → BreaksNoneBelow bytes ShortBext
 none_below_short_bext bytes span format says has whole lower =
     none_below_next bytes PartFrame ShortBext refl (none_below_part_frame bytes span has lower)
-    (λ (place : ℕ) (broken : (chunks : List Chunk) × Begins (drop 12 bytes) chunks [] × HasPartFrame chunks place).
+    (λ (place : ℕ) (broken : OfChunks bytes (λ chunks. HasPartFrame chunks place)).
     let found = broken.2 in
     let format_is : found.0 ≡ says.placed =
-    one_placed _ _ _ (ap (named (codes "fmt ")) (chunks_unique says.chunks broken.0 (drop 12 bytes) says.whole broken.1) ∙ found.2) says.one in
+    one_placed _ _ _ (ap (named (codes "fmt ")) (chunks_unique says.chunks broken.0 (drop CHUNKS_AT bytes) says.whole broken.1) ∙ found.2) says.one in
     let samples_is : found.1 ≡ has.placed =
-    one_placed _ _ _ (ap (named (codes "data")) (chunks_unique has.chunks broken.0 (drop 12 bytes) has.whole broken.1) ∙ found.3) has.one in
+    one_placed _ _ _ (ap (named (codes "data")) (chunks_unique has.chunks broken.0 (drop CHUNKS_AT bytes) has.whole broken.1) ∙ found.3) has.one in
     found.4
     (ap (λ (p : Placed). length p.content % align_of found.0.content) samples_is
     ∙ ap (λ (p : Placed). length has.placed.content % align_of p.content) format_is
@@ -183,8 +185,8 @@ none_below_short_bext bytes span format says has whole lower =
 
 -- ---- the `bext` chunk
 
-pub short_bext : (bytes : List ℕ) (span : Span) (place : ℕ) → HasOne bytes (codes "bext") span → span.end - span.start < 602 → place ≡ span.start - 8
-    → (chunks : List Chunk) × Begins (drop 12 bytes) chunks [] × HasShortBext chunks place
+pub short_bext : (bytes : List ℕ) (span : Span) (place : ℕ) → HasOne bytes (codes "bext") span → span.end - span.start < BEXT_BYTES → place ≡ span.start - 8
+    → OfChunks bytes (λ chunks. HasShortBext chunks place)
 short_bext bytes span place has short is =
     let at = lies bytes (codes "bext") span has in
     let start = at.start in
@@ -199,7 +201,7 @@ no_bext bytes has = record {
   found_is = ap (λ (found : List Placed). option_map span_of (slice_get found 0)) (sym has.none);
 }
 
-pub long_bext : (bytes : List ℕ) (span : Span) → HasOne bytes (codes "bext") span → 602 ≤ span.end - span.start → HasRightBext bytes (Some span)
+pub long_bext : (bytes : List ℕ) (span : Span) → HasOne bytes (codes "bext") span → BEXT_BYTES ≤ span.end - span.start → HasRightBext bytes (Some span)
 long_bext bytes span has long =
     let size = (lies bytes (codes "bext") span has).size in
     record {
@@ -211,7 +213,7 @@ long_bext bytes span has long =
 
 -- what reading the format answered
 pub says_result : (bytes content : List ℕ) (at : ℕ) (result : Result Format Refused) → IsFormatContent bytes content at
-    → OnOk result (IsFormat content (channels_of content) (depth_of content)) → OnOk result (1 ≤ channels_of content) → OnOk result (channels_of content ≤ 6)
+    → OnOk result (IsFormat content (channels_of content) (depth_of content)) → OnOk result (1 ≤ channels_of content) → OnOk result (channels_of content ≤ MOST_CHANNELS)
     → IfOk result (λ format. format.channels ≡ channels_of content) → IfOk result (λ format. format.depth ≡ depth_of content)
     → IfOk result (λ format. format.align ≡ align_of content) → IfOk result (λ format. SaysFormat bytes format)
 says_result bytes content at (Ok format) is is_format some few channels depth align = says_format bytes content at format is is_format some few channels depth align

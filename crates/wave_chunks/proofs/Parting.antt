@@ -2,9 +2,10 @@
 use Rattle.std.proofs.Common.{◌≡◌, ◌+◌, ◌-◌, ℕ, List, [], ◌∷◌, map, slice_get, drop, refl, subst, ap, ◌∙◌, sym, arith}
 use Rattle.std.specs.Prelude.{codes, Option, Some, None}
 use Rattle.lib_base.specs.declared.files.Span.{Span}
+use Rattle.file_model.specs.declared.wave_fields.TheConstants.{CHUNKS_AT}
 use Rattle.file_model.specs.declared.wave_rules.WaveRule.TheVariants.{RepeatedChunk, NoFormat}
 use Rattle.file_model.specs.Chunks.{Chunk, Placed, Begins, named, second_head, earlier, first_repeat}
-use Rattle.file_model.specs.Rules.{BreaksNoneBelow}
+use Rattle.file_model.specs.Rules.{OfChunks, BreaksNoneBelow}
 use Rattle.file_model.proofs.Readings.{none_below_next}
 use Rattle.file_model.proofs.Spellings.{chunks_unique}
 use Rattle.wave_chunks.specs.declared.chunks.Chunk.{Chunk as Stored}
@@ -13,7 +14,7 @@ use Rattle.wave_chunks.proofs.Naming.{spans_named-from}
 
 -- the contents of a name, as the file's chunks say
 contents_of : (bytes name : List ℕ) (spans : List Stored) (are : AreChunks bytes spans) → spans_named name spans ≡ map span_of (named name are.chunks)
-contents_of bytes name spans are = ap (spans_named name) are.spans_are ∙ spans_named-from name 12 are.chunks
+contents_of bytes name spans are = ap (spans_named name) are.spans_are ∙ spans_named-from name CHUNKS_AT are.chunks
 
 back_to_head : (head : ℕ) → head + 8 - 8 ≡ head
 back_to_head head = omega arith
@@ -46,7 +47,7 @@ both_none None other h = (refl, h)
 both_none (Some one) None h = cc
 both_none (Some one) (Some other) h = cc
 
-one_at_most : (bytes name : List ℕ) (chunks : List Chunk) (found : List Placed) → Begins (drop 12 bytes) chunks [] → named name chunks ≡ found
+one_at_most : (bytes name : List ℕ) (chunks : List Chunk) (found : List Placed) → Begins (drop CHUNKS_AT bytes) chunks [] → named name chunks ≡ found
     → second_head found ≡ None → AtMostOne bytes name (slice_get (map span_of found) 0)
 one_at_most bytes name chunks [] whole is once = record { chunks = chunks; whole = whole; none = is }
 one_at_most bytes name chunks (one ∷ []) whole is once = record { chunks = chunks; whole = whole; placed = one; one = is; span_is = refl }
@@ -88,8 +89,8 @@ some_and_none place found h k = cc
 pub none_below_no_format : (bytes : List ℕ) (spans : List Stored) (are : AreChunks bytes spans) → first_repeat are.chunks ≡ None → BreaksNoneBelow bytes RepeatedChunk
     → BreaksNoneBelow bytes NoFormat
 none_below_no_format bytes spans are none lower =
-    none_below_next bytes RepeatedChunk NoFormat refl lower (λ (place : ℕ) (broken : (chunks : List Chunk) × Begins (drop 12 bytes) chunks [] × (first_repeat chunks ≡ Some place)).
-    some_and_none place (first_repeat are.chunks) none (ap first_repeat (chunks_unique are.chunks broken.0 (drop 12 bytes) are.whole broken.1) ∙ broken.2))
+    none_below_next bytes RepeatedChunk NoFormat refl lower (λ (place : ℕ) (broken : OfChunks bytes (λ chunks. first_repeat chunks ≡ Some place)).
+    some_and_none place (first_repeat are.chunks) none (ap first_repeat (chunks_unique are.chunks broken.0 (drop CHUNKS_AT bytes) are.whole broken.1) ∙ broken.2))
 
 -- the earliest of three places, one after another
 pub joined : (result others one two three : Option ℕ) (format samples bext : Option Span) → result ≡ earlier one others → others ≡ earlier two three

@@ -1,11 +1,13 @@
 -- From one rule to the next.
-use Rattle.std.proofs.Common.{◌≡◌, ◌≢◌, ◌≤◌, ◌<◌, ◌+◌, ◌*◌, ◌/◌, ◌⊎◌, ◌↔◌, inl, inr, ℕ, Bool, true, false, IsTrue, List, [], length, drop, refl, subst, ap, ◌∙◌, sym, arith}
+use Rattle.std.proofs.Common.{◌≡◌, ◌≢◌, ◌≤◌, ◌<◌, ◌+◌, ◌*◌, ◌/◌, ◌⊎◌, ◌↔◌, inl, inr, ℕ, Bool, true, false, IsTrue, List, length, drop, refl, subst, ap, ◌∙◌, sym, arith}
 use Rattle.std.specs.Prelude.{codes}
 use Rattle.std.specs.Int.{abs_diff}
 use Rattle.lib_base.specs.Sounds.{part}
+use Rattle.lib_base.specs.declared.limits.TheConstants.{MOST_CHANNELS}
+use Rattle.file_model.specs.declared.wave_fields.TheConstants.{SIZE_AT, FORM_AT, CHUNKS_AT}
 use Rattle.file_model.specs.declared.wave_rules.WaveRule.TheVariants.{NoRiff, OtherForm, OtherSize, CutChunk}
-use Rattle.file_model.specs.Chunks.{Chunk, Placed, Begins, named, number_at}
-use Rattle.file_model.specs.Rules.{FormatIs, IsNoRiff, IsOtherForm, HasOtherSize, BreaksNoneBelow}
+use Rattle.file_model.specs.Chunks.{Placed, named, number_at}
+use Rattle.file_model.specs.Rules.{OfChunks, FormatIs, IsNoRiff, IsOtherForm, HasOtherSize, BreaksNoneBelow}
 use Rattle.file_model.specs.Wave.{IsNear}
 use Rattle.file_model.proofs.Readings.{none_below_first, none_below_next}
 use Rattle.file_model.proofs.Spellings.{chunks_unique}
@@ -16,15 +18,15 @@ use Rattle.wave_chunks.specs.Formats.{IsLongEnough, IsPcm}
 
 -- a wrong content breaks its rule
 pub format_broken : (bytes content : List ℕ) (at : ℕ) (Wrong : List ℕ → Type 0) (offset place : ℕ) → IsFormatContent bytes content at → Wrong content
-    → place ≡ at + offset → (chunks : List Chunk) × Begins (drop 12 bytes) chunks [] × FormatIs Wrong offset chunks place
+    → place ≡ at + offset → OfChunks bytes (λ chunks. FormatIs Wrong offset chunks place)
 format_broken bytes content at Wrong offset place is wrong at_place =
     (is.chunks, is.whole, (is.format, is.one, subst Wrong is.content_is wrong, at_place ∙ ap (λ (n : ℕ). n + offset) is.at_is))
 
 -- a right one does not, at any place
 pub format_right : (bytes content : List ℕ) (at : ℕ) (Wrong : List ℕ → Type 0) (offset : ℕ) → IsFormatContent bytes content at → (Wrong content → ⊥)
-    → (place : ℕ) → (chunks : List Chunk) × Begins (drop 12 bytes) chunks [] × FormatIs Wrong offset chunks place → ⊥
+    → (place : ℕ) → OfChunks bytes (λ chunks. FormatIs Wrong offset chunks place) → ⊥
 format_right bytes content at Wrong offset is right place broken =
-    let same : broken.0 ≡ is.chunks = chunks_unique broken.0 is.chunks (drop 12 bytes) broken.1 is.whole in
+    let same : broken.0 ≡ is.chunks = chunks_unique broken.0 is.chunks (drop CHUNKS_AT bytes) broken.1 is.whole in
     let found = broken.2 in
     let format : found.0 ≡ is.format = one_placed _ _ _ (ap (named (codes "fmt ")) (sym same) ∙ found.1) is.one in
     right (subst Wrong (ap (λ (p : Placed). p.content) format ∙ sym is.content_is) found.2)
@@ -39,7 +41,7 @@ not_other content (inr extensible) (inl other) = other.1 extensible.0
 not_other content (inl plain) (inr other) = let tag = other.0 in omega (arith, plain, tag)
 not_other content (inr extensible) (inr other) = other.1 extensible.2
 
-pub not_other_channels : (content : List ℕ) → 1 ≤ channels_of content → channels_of content ≤ 6 → HasOtherChannels content → ⊥
+pub not_other_channels : (content : List ℕ) → 1 ≤ channels_of content → channels_of content ≤ MOST_CHANNELS → HasOtherChannels content → ⊥
 not_other_channels content some few (inl none) = omega (arith, some, none)
 not_other_channels content some few (inr many) = omega (arith, few, many)
 
@@ -53,19 +55,19 @@ other_align content align channels depth is_align is_channels is_depth differs s
     differs
     (is_align ∙ same ∙ ap (λ (n : ℕ). n * depth_of content / 8) (sym is_channels) ∙ ap (λ (n : ℕ). channels * n / 8) (sym is_depth))
 
--- ---- the first 12 bytes
+-- ---- the bytes before the chunks
 
-pub none_below_other_form : (bytes : List ℕ) → 12 ≤ length bytes → part bytes 0 4 ≡ codes "RIFF" → BreaksNoneBelow bytes OtherForm
+pub none_below_other_form : (bytes : List ℕ) → CHUNKS_AT ≤ length bytes → part bytes 0 4 ≡ codes "RIFF" → BreaksNoneBelow bytes OtherForm
 none_below_other_form bytes long riff =
     none_below_next bytes NoRiff OtherForm refl (none_below_first bytes)
     (λ (place : ℕ) (broken : IsNoRiff bytes place). elim broken.0 [ inl short ↦ omega (arith, long, short) | inr other ↦ other riff ])
 
-pub none_below_other_size : (bytes : List ℕ) → 12 ≤ length bytes → part bytes 0 4 ≡ codes "RIFF" → part bytes 8 4 ≡ codes "WAVE" → BreaksNoneBelow bytes OtherSize
+pub none_below_other_size : (bytes : List ℕ) → CHUNKS_AT ≤ length bytes → part bytes 0 4 ≡ codes "RIFF" → part bytes FORM_AT 4 ≡ codes "WAVE" → BreaksNoneBelow bytes OtherSize
 none_below_other_size bytes long riff form =
     none_below_next bytes OtherForm OtherSize refl (none_below_other_form bytes long riff) (λ (place : ℕ) (broken : IsOtherForm bytes place). broken.0 form)
 
-pub none_below_cut_chunk : (bytes : List ℕ) → 12 ≤ length bytes → part bytes 0 4 ≡ codes "RIFF" → part bytes 8 4 ≡ codes "WAVE"
-    → IsNear (number_at bytes 4) (length bytes) → BreaksNoneBelow bytes CutChunk
+pub none_below_cut_chunk : (bytes : List ℕ) → CHUNKS_AT ≤ length bytes → part bytes 0 4 ≡ codes "RIFF" → part bytes FORM_AT 4 ≡ codes "WAVE"
+    → IsNear (number_at bytes SIZE_AT) (length bytes) → BreaksNoneBelow bytes CutChunk
 none_below_cut_chunk bytes long riff form near =
     none_below_next bytes OtherSize CutChunk refl (none_below_other_size bytes long riff form) (λ (place : ℕ) (broken : HasOtherSize bytes place). broken.0 near)
 

@@ -4,6 +4,7 @@ use Rattle.std.proofs.lemmas.Bool.{cases_lt, lt-ltb, le-ltb}
 use Rattle.std.proofs.lemmas.List.{drop_all}
 use Rattle.lib_base.specs.Sounds.{part}
 use Rattle.lib_base.specs.declared.files.Span.{Span}
+use Rattle.file_model.specs.declared.wave_fields.TheConstants.{CHUNKS_AT}
 use Rattle.file_model.specs.declared.wave_rules.WaveRule.TheVariants.{CutChunk, RepeatedChunk}
 use Rattle.file_model.specs.Chunks.{Chunk, Begins, IsPad, IsCut, spelling, next_head, number_at, four_bytes}
 use Rattle.file_model.specs.Rules.{IsCutAt, BreaksNoneBelow}
@@ -81,7 +82,7 @@ padded bytes end count next inside is =
           }
     ]
 
-pub walk_begins : (bytes : List ℕ) → 12 ≤ length bytes → Walked bytes 12 []
+pub walk_begins : (bytes : List ℕ) → CHUNKS_AT ≤ length bytes → Walked bytes CHUNKS_AT []
 walk_begins bytes long = record { chunks = []; begins = refl; spans_are = refl; inside = long; head = λ _. refl }
 
 same_stored : (chunk : Stored) (name : List ℕ) (content : Span) → chunk.name ≡ name → chunk.content ≡ content → chunk ≡ record { name = name; content = content }
@@ -111,25 +112,25 @@ walk_more bytes at next spans chunk are walked before is next_is =
     record {
       chunks = walked.chunks ++ found ∷ [];
       begins =
-          Begins-push walked.chunks found (drop 12 bytes) (drop at bytes) behind.pad (drop next bytes) walked.begins
+          Begins-push walked.chunks found (drop CHUNKS_AT bytes) (drop at bytes) behind.pad (drop next bytes) walked.begins
           (record { name_length = length-part bytes at 4 (let inside = is.inside in omega (arith, inside)); content_fits = let fits = number_fits bytes (at + 4) are in omega (arith, size, fits) })
           (spelled_at bytes at are is.inside ∙ ap (λ (rest : List ℕ). spelling found ++ rest) behind.follows)
           (subst (λ (n : ℕ). IsPad n behind.pad (drop next bytes)) (sym size) behind.is_pad);
       spans_are =
           ap (λ (front : List Stored). front ++ chunk ∷ []) walked.spans_are
-          ∙ ap (λ (c : Stored). spans_from 12 walked.chunks ++ c ∷ [])
+          ∙ ap (λ (c : Stored). spans_from CHUNKS_AT walked.chunks ++ c ∷ [])
           (same_stored chunk (part bytes at 4) (span_from at count) is.name is.content
           ∙ ap with_count (sym size) ∙ ap (λ (h : ℕ). stored h found) (sym head))
-          ∙ sym (spans_from-push 12 walked.chunks found);
+          ∙ sym (spans_from-push CHUNKS_AT walked.chunks found);
       inside = behind.inside;
-      head = λ more. head_after-push 12 walked.chunks found ∙ ap (λ (h : ℕ). next_head h found) head ∙ ap (λ (n : ℕ). at + 8 + n + n % 2) size ∙ sym (behind.not_last more);
+      head = λ more. head_after-push CHUNKS_AT walked.chunks found ∙ ap (λ (h : ℕ). next_head h found) head ∙ ap (λ (n : ℕ). at + 8 + n + n % 2) size ∙ sym (behind.not_last more);
     }
 
 -- the end of the walk
 pub walk_ends : (bytes : List ℕ) (at : ℕ) (spans : List Stored) → Walked bytes at spans → length bytes ≤ at → AreChunks bytes spans
 walk_ends bytes at spans walked end = record {
   chunks = walked.chunks;
-  whole = subst (λ (rest : List ℕ). Begins (drop 12 bytes) walked.chunks rest) (drop_all at bytes end) walked.begins;
+  whole = subst (λ (rest : List ℕ). Begins (drop CHUNKS_AT bytes) walked.chunks rest) (drop_all at bytes end) walked.begins;
   spans_are = walked.spans_are;
 }
 
@@ -143,4 +144,4 @@ walk_cut bytes at spans walked before cut =
 pub none_below_repeated_chunk : (bytes : List ℕ) (spans : List Stored) → AreChunks bytes spans → BreaksNoneBelow bytes CutChunk → BreaksNoneBelow bytes RepeatedChunk
 none_below_repeated_chunk bytes spans are lower =
     none_below_next bytes CutChunk RepeatedChunk refl lower (λ (place : ℕ) (cut : IsCutAt bytes place).
-    not_whole_and_cut cut.0 are.chunks (drop 12 bytes) cut.1 cut.4 cut.3 cut.2 are.whole)
+    not_whole_and_cut cut.0 are.chunks (drop CHUNKS_AT bytes) cut.1 cut.4 cut.3 cut.2 are.whole)

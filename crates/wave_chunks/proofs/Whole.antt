@@ -3,6 +3,7 @@ use Rattle.std.proofs.Common.{◌≡◌, ◌-◌, ◌*◌, ◌/◌, ◌%◌, ℕ
 use Rattle.std.specs.Prelude.{codes}
 use Rattle.std.specs.Option.{option_map}
 use Rattle.lib_base.specs.declared.files.Span.{Span}
+use Rattle.file_model.specs.declared.wave_fields.TheConstants.{CHUNKS_AT}
 use Rattle.file_model.specs.Chunks.{Placed, named}
 use Rattle.file_model.specs.Format.{channels_of, depth_of, align_of}
 use Rattle.file_model.specs.Pcm.{Pcm}
@@ -27,11 +28,11 @@ pub read_is : (bytes : List ℕ) (wave : Shape) (format : Format) (samples : Spa
 read_is bytes wave format samples are headed chunks says has whole bext channels depth frames samples_is =
     let file = chunks.chunks in
     let to_format : named (codes "fmt ") file ≡ says.placed ∷ [] =
-    ap (named (codes "fmt ")) (chunks_unique file says.chunks (drop 12 bytes) chunks.whole says.whole) ∙ says.one in
+    ap (named (codes "fmt ")) (chunks_unique file says.chunks (drop CHUNKS_AT bytes) chunks.whole says.whole) ∙ says.one in
     let to_data : named (codes "data") file ≡ has.placed ∷ [] =
-    ap (named (codes "data")) (chunks_unique file has.chunks (drop 12 bytes) chunks.whole has.whole) ∙ has.one in
+    ap (named (codes "data")) (chunks_unique file has.chunks (drop CHUNKS_AT bytes) chunks.whole has.whole) ∙ has.one in
     let to_bext : named (codes "bext") bext.chunks ≡ named (codes "bext") file =
-    ap (named (codes "bext")) (chunks_unique bext.chunks file (drop 12 bytes) bext.whole chunks.whole) in
+    ap (named (codes "bext")) (chunks_unique bext.chunks file (drop CHUNKS_AT bytes) bext.whole chunks.whole) in
     let content = says.placed.content in
     let data_chunk = has.placed.content in
     let k = channels_of content in

@@ -1,10 +1,11 @@
 use Rattle.std.proofs.Common.{sym, subst}
+use Rattle.file_model.specs.declared.wave_fields.TheConstants.{CHUNKS_AT}
 use Rattle.wave_chunks.proofs.Walking.{walk_begins, walk_more, walk_ends, walk_cut, none_below_repeated_chunk}
 use Rattle.wave_chunks.specs.Spans.{Walked}
 use Rattle.wave_chunks.proofs.chunks.read_chunks.Goals as goal
 
 pub chunks-init : goal.chunks-init
-chunks-init c = subst (Walked c.args.bytes.now 12) (sym c.new-chunks.ensures.items) (walk_begins c.args.bytes.now c.requires.long)
+chunks-init c = subst (Walked c.args.bytes.now CHUNKS_AT) (sym c.new-chunks.ensures.items) (walk_begins c.args.bytes.now c.requires.long)
 
 pub chunks-preserved : goal.chunks-preserved
 chunks-preserved c =
