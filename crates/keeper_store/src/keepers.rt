@@ -67,6 +67,13 @@ impl MemKeeper {
             applies: 0,
         }
     }
+
+    /// The tables as they are.
+    pub fn tables(&self) -> &Tables
+        ensures { ⟦<MemKeeper as Keeper>⟧.tables self.now ≡ Some result.now }
+    {
+        &self.tables
+    }
 }
 
 impl Keeper for MemKeeper {

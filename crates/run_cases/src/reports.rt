@@ -1,0 +1,108 @@
+//! What a run leaves, as text.
+
+use anyhow::Result;
+use keeper_store::{RecordingRow, SegmentRow, Tables};
+use lib_base::Bytes;
+use md5::{Digest, Md5};
+use std::alloc::Global;
+use std::collections::BTreeMap;
+use std::fmt::Write;
+
+/// How a reply begins.
+const REPLY: &[u8] = b"HTTP/1.1 ";
+
+/// Adds the output: one line for each reply, and another before the first where something stands
+/// before it. Its own line ends are written out.
+pub fn add_output(text: &mut String, output: &[u8]) -> Result<()> {
+    let mut rest = output;
+    while !rest.is_empty() {
+        text.push_str("output ")?;
+        let length = reply_length(rest);
+        let (reply, others) = rest.split_at(length);
+        add_escaped(text, reply)?;
+        text.push_str("\n")?;
+        rest = others;
+    }
+    Ok(())
+}
+
+/// How many bytes stand before the next reply.
+fn reply_length(output: &[u8]) -> usize {
+    for at in 1..output.len() {
+        if output.split_at(at).1.starts_with(REPLY) {
+            return at;
+        }
+    }
+    output.len()
+}
+
+/// Adds bytes as text, those that are no printing characters written out.
+fn add_escaped(text: &mut String, bytes: &[u8]) -> Result<()> {
+    for byte in bytes {
+        match *byte {
+            b'\r' => text.push_str("\\r")?,
+            b'\n' => text.push_str("\\n")?,
+            b'\\' => text.push_str("\\\\")?,
+            b' '..=b'~' => text.push(char::from(*byte))?,
+            other => write!(text, "\\x{other:02x}")?,
+        }
+    }
+    Ok(())
+}
+
+/// Adds the tables: a line for the counters, and a line for each row.
+pub fn add_tables(text: &mut String, tables: &Tables) -> Result<()> {
+    let (album, recording, take) = (tables.next_album, tables.next_recording, tables.next_take);
+    writeln!(text, "counters {album} {recording} {take}")?;
+    for row in tables.albums.as_slice() {
+        writeln!(text, "{row:?}")?;
+    }
+    for row in tables.recordings.as_slice() {
+        add_recording(text, row)?;
+    }
+    for row in tables.segments.as_slice() {
+        add_segments(text, row)?;
+    }
+    for row in tables.replies.as_slice() {
+        writeln!(text, "{row:?}")?;
+    }
+    Ok(())
+}
+
+fn add_recording(text: &mut String, row: &RecordingRow) -> Result<()> {
+    write!(text, "recording {}: take {}, ", row.id, row.take)?;
+    write!(text, "{:?}, {} channels, {} bits, ", row.kind, row.channels, row.depth)?;
+    write!(text, "album {:?}, name {:?}, md5 ", row.album, row.name.as_str())?;
+    add_hex(text, row.digest.as_slice())?;
+    writeln!(text, ", {:?}", row.summary)?;
+    Ok(())
+}
+
+fn add_segments(text: &mut String, row: &SegmentRow) -> Result<()> {
+    write!(text, "segments {}: ", row.take)?;
+    add_bytes(text, &row.energies)
+}
+
+/// Adds what the keys of a vault hold, a line for each.
+pub fn add_keys(text: &mut String, blobs: &BTreeMap<u32, Bytes>) -> Result<()> {
+    for (key, bytes) in blobs.iter() {
+        write!(text, "key {key}: ")?;
+        add_bytes(text, bytes)?;
+    }
+    Ok(())
+}
+
+/// Adds how many bytes there are, and their MD5.
+fn add_bytes(text: &mut String, bytes: &Bytes) -> Result<()> {
+    write!(text, "{} bytes, md5 ", bytes.len())?;
+    add_hex(text, Md5::digest(bytes.as_slice()).as_slice())?;
+    writeln!(text)?;
+    Ok(())
+}
+
+fn add_hex(text: &mut String, bytes: &[u8]) -> Result<()> {
+    for byte in bytes {
+        write!(text, "{byte:02x}")?;
+    }
+    Ok(())
+}
