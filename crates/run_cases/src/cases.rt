@@ -5,7 +5,7 @@ use anyhow::{Context, Result, bail};
 use std::alloc::Global;
 
 /// A run: its words, its input, and how its objects behave.
-#[derive(Debug, Drop)]
+#[derive(Drop)]
 pub struct Case {
     pub words: Vec<String>,
     pub input: Vec<u8>,
@@ -19,7 +19,7 @@ pub struct Case {
 }
 
 /// The calls of each object that fail, by their numbers from 1.
-#[derive(Debug, Drop)]
+#[derive(Drop)]
 pub struct Failing {
     pub source: Vec<u32>,
     pub sink: Vec<u32>,
@@ -27,13 +27,44 @@ pub struct Failing {
     pub vault: Vec<u32>,
 }
 
-/// The case that the lines give, over these files.
-pub fn read_case(alloc: Global, lines: &[&str], files: &[File]) -> Result<Case> {
+/// The lines of a case by its name.
+#[derive(Drop)]
+pub struct Lines<'a> {
+    pub name: &'a str,
+    pub lines: Vec<&'a str>,
+}
+
+/// The case that the lines give, over these files and the cases before it.
+pub fn read_case(
+    alloc: Global,
+    lines: &[&str],
+    before: &[Lines<'_>],
+    files: &[File],
+) -> Result<Case> {
     let mut case = new_case(alloc)?;
     for line in lines {
-        obey(alloc, &mut case, line, files).context(format_args!("{line}"))?;
+        match line.split_once(' ') {
+            Some(("like", name)) => obey_all(alloc, &mut case, lines_of(before, name)?, files)?,
+            _ => obey(alloc, &mut case, line, files).context(format_args!("{line}"))?,
+        }
     }
     Ok(case)
+}
+
+/// The lines of the case of a name.
+fn lines_of<'a>(cases: &'a [Lines<'a>], name: &str) -> Result<&'a [&'a str]> {
+    match cases.iter().find(|case| case.name == name) {
+        Some(case) => Ok(case.lines.as_slice()),
+        None => bail!("no case {name}"),
+    }
+}
+
+/// Does what the lines of another case say.
+fn obey_all(alloc: Global, case: &mut Case, lines: &[&str], files: &[File]) -> Result<()> {
+    for line in lines {
+        obey(alloc, case, line, files).context(format_args!("{line}"))?;
+    }
+    Ok(())
 }
 
 /// The session over an empty input, in which nothing fails.
@@ -83,7 +114,10 @@ fn add_input(
         "fill" => input.resize(rest.parse::<usize>()?, b'-')?,
         "import" => add_import(alloc, input, find(files, rest)?)?,
         "ask" => {
-            add_line(input, format!(in alloc; "GET /recordings/{rest} HTTP/1.1")?.as_str())?;
+            add_line(
+                input,
+                format!(in alloc; "GET /recordings/{rest} HTTP/1.1")?.as_str(),
+            )?;
             add_line(input, "Host: a")?;
             add_line(input, "")?;
         }
@@ -105,7 +139,10 @@ fn add_import(alloc: Global, input: &mut Vec<u8>, file: &File) -> Result<()> {
 /// Adds the header line that tells the length of a file.
 fn add_length(alloc: Global, input: &mut Vec<u8>, file: &File) -> Result<()> {
     let length = file.bytes.len();
-    add_line(input, format!(in alloc; "Content-Length: {length}")?.as_str())
+    add_line(
+        input,
+        format!(in alloc; "Content-Length: {length}")?.as_str(),
+    )
 }
 
 /// Adds a line of a head.

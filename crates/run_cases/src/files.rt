@@ -7,11 +7,10 @@ use std::alloc::{AllocError, Global};
 const RATE: u32 = 48_000;
 
 /// The subformat of PCM in the extensible form.
-const PCM_SUBFORMAT: &[u8] =
-    b"\x01\0\0\0\0\0\x10\0\x80\0\0\xaa\0\x38\x9b\x71";
+const PCM_SUBFORMAT: &[u8] = b"\x01\0\0\0\0\0\x10\0\x80\0\0\xaa\0\x38\x9b\x71";
 
 /// A file by its name.
-#[derive(Debug, Drop)]
+#[derive(Drop)]
 pub struct File {
     pub name: String,
     pub bytes: Vec<u8>,
@@ -37,7 +36,7 @@ pub fn make_file(alloc: Global, name: &str, lines: &[&str]) -> Result<File> {
 }
 
 /// A file as far as its lines have made it. Where a chunk was begun it is a wave file of chunks.
-#[derive(Debug, Drop)]
+#[derive(Drop)]
 struct Making {
     alloc: Global,
     /// Bytes of a sample.
@@ -84,10 +83,11 @@ impl Making {
         Ok(())
     }
 
-    /// Ends the chunk before, if there is one, and begins another.
+    /// Ends the chunk before, if there is one, and begins another. Its name has four letters, the last
+    /// of them spaces where it is written with fewer.
     fn begin_chunk(&mut self, name: &str) -> Result<()> {
         self.end_chunk()?;
-        self.chunk = Some(String::from_str(self.alloc, name)?);
+        self.chunk = Some(format!(in self.alloc; "{name:<4}")?);
         Ok(())
     }
 
@@ -99,7 +99,8 @@ impl Making {
         };
         let length = u32::try_from(self.content.len())?;
         self.chunks.extend_from_slice(name.as_bytes())?;
-        self.chunks.extend_from_slice(length.to_le_bytes().as_slice())?;
+        self.chunks
+            .extend_from_slice(length.to_le_bytes().as_slice())?;
         self.chunks.extend_from_slice(self.content.as_slice())?;
         if length % 2 == 1 {
             self.chunks.push(0)?;
@@ -113,7 +114,7 @@ impl Making {
         let (channels, depth) = two_numbers(numbers)?;
         let align = channels.wrapping_mul(depth / 8);
         self.width = usize::from(depth / 8);
-        self.begin_chunk("fmt ")?;
+        self.begin_chunk("fmt")?;
         add_u16(&mut self.content, tag)?;
         add_u16(&mut self.content, channels)?;
         add_u32(&mut self.content, RATE)?;
@@ -171,7 +172,7 @@ impl Making {
 
 /// A square wave: so many frames of a value, as many of that value with the other sign, and so on.
 /// Where the number of frames is 0 the value stays.
-#[derive(Clone, Copy, Debug)]
+#[derive(Clone, Copy)]
 struct Square {
     half: u32,
     value: i32,

@@ -10,7 +10,7 @@ mod files;
 mod reports;
 mod runs;
 
-use crate::cases::read_case;
+use crate::cases::{Lines, read_case};
 use crate::files::{File, make_file};
 use anyhow::{Context, Result, bail};
 use std::alloc::Global;
@@ -19,34 +19,56 @@ use std::io;
 fn main(rt: HostRuntime) -> Result<()> {
     let alloc = rt.alloc();
     let text = io::read_to_string(alloc, rt.reader())?;
-    let mut files = Vec::new(alloc);
+    let mut told = Told::new(alloc);
     for block in text.as_str().split("\n\n") {
-        let report = obey(alloc, block, &mut files)?;
-        rt.print(report)?;
+        rt.print(told.obey(alloc, block)?)?;
     }
     Ok(())
 }
 
-/// Makes the file of a block, or runs its case and answers the report.
-fn obey(alloc: Global, block: &str, files: &mut Vec<File>) -> Result<String> {
-    let lines: Vec<&str> = block
-        .lines()
-        .filter(|line| !line.starts_with('#') && !line.is_empty())
-        .collect(alloc)?;
-    let Some((head, lines)) = lines.as_slice().split_first() else {
-        return Ok(String::new(alloc));
-    };
-    match head.split_once(' ') {
-        Some(("file", name)) => {
-            let file = make_file(alloc, name, lines).context(format_args!("file {name}"))?;
-            files.push(file)?;
-            Ok(String::new(alloc))
+/// What the blocks so far have told.
+#[derive(Drop)]
+struct Told<'a> {
+    files: Vec<File>,
+    cases: Vec<Lines<'a>>,
+}
+
+impl<'a> Told<'a> {
+    fn new(alloc: Global) -> Told<'a> {
+        Told {
+            files: Vec::new(alloc),
+            cases: Vec::new(alloc),
         }
-        Some(("case", name)) => {
-            let case = read_case(alloc, lines, files.as_slice())
-                .context(format_args!("case {name}"))?;
-            Ok(runs::report(alloc, name, case)?)
+    }
+
+    /// Makes the file of a block, or runs its case and answers the report.
+    fn obey(&mut self, alloc: Global, block: &'a str) -> Result<String> {
+        let mut lines: Vec<&'a str> = block
+            .lines()
+            .filter(|line| !line.starts_with('#') && !line.is_empty())
+            .collect(alloc)?;
+        if lines.is_empty() {
+            return Ok(String::new(alloc));
         }
-        _ => bail!("neither a file nor a case: {head}"),
+        let head = lines.remove(0);
+        match head.split_once(' ') {
+            Some(("file", name)) => {
+                let file = make_file(alloc, name, lines.as_slice()).context(head)?;
+                self.files.push(file)?;
+                Ok(String::new(alloc))
+            }
+            Some(("case", name)) => {
+                let report = self.run(alloc, name, lines.as_slice()).context(head)?;
+                self.cases.push(Lines { name, lines })?;
+                Ok(report)
+            }
+            _ => bail!("neither a file nor a case: {head}"),
+        }
+    }
+
+    /// Runs the case of the lines and answers the report.
+    fn run(&self, alloc: Global, name: &str, lines: &[&str]) -> Result<String> {
+        let (files, cases) = (self.files.as_slice(), self.cases.as_slice());
+        runs::report(alloc, name, read_case(alloc, lines, cases, files)?)
     }
 }

@@ -71,8 +71,17 @@ pub fn add_tables(text: &mut String, tables: &Tables) -> Result<()> {
 
 fn add_recording(text: &mut String, row: &RecordingRow) -> Result<()> {
     write!(text, "recording {}: take {}, ", row.id, row.take)?;
-    write!(text, "{:?}, {} channels, {} bits, ", row.kind, row.channels, row.depth)?;
-    write!(text, "album {:?}, name {:?}, md5 ", row.album, row.name.as_str())?;
+    write!(
+        text,
+        "{:?}, {} channels, {} bits, ",
+        row.kind, row.channels, row.depth
+    )?;
+    write!(
+        text,
+        "album {:?}, name {:?}, md5 ",
+        row.album,
+        row.name.as_str()
+    )?;
     add_hex(text, row.digest.as_slice())?;
     writeln!(text, ", {:?}", row.summary)?;
     Ok(())
