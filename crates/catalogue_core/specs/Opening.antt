@@ -1,5 +1,9 @@
 -- Which tables a library opens over.
-use Rattle.std.specs.Prelude.{◌≡◌, ◌==◌, ◌&&◌, Bool, length, Option, None, Some, Result, Ok, Err, if◌then◌else◌, ⊤}
+use Rattle.std.specs.Prelude.{◌≡◌, ◌==◌, ◌&&◌, Bool, length, Option, None, Some, Result, Ok, Err, if◌then◌else◌, IfOk, IfSome, IsErrOf, ⊤}
+use Rattle.lib_base.specs.Faults.{CountsFault}
+use Rattle.keeper_store.specs.Changes.{empty_tables}
+use Rattle.keeper_store.specs.Goes.{Goes}
+use Rattle.keeper_store.specs.Keepers.{KeeperView}
 use Rattle.keeper_store.specs.declared.contents.Tables.{Tables}
 use Rattle.catalogue_core.specs.declared.libraries.BadRow.{BadRow}
 use Rattle.catalogue_core.specs.declared.libraries.Library.{Library}
@@ -25,3 +29,11 @@ OpensOver t (Ok library) = (first_bad t ≡ None) × (kept_tables library ≡ t)
 OpensOver t (Err (refusal.BadRow row)) = first_bad t ≡ Some row
 OpensOver t (Err refusal.KeeperFault) = ⊤
 OpensOver t (Err refusal.Memory) = ⊤
+
+-- What opening does: the library is that of the tables, which are empty, and the keeper keeps its tables.
+pub record Opens (old new : KeeperView) (r : Result Library OpenRefusal) : Type 0 where
+  pub opens : IfSome old.tables (λ t. OpensOver t r)
+  pub begins : IfOk r (λ library. kept_tables library ≡ empty_tables)
+  pub tables : Goes (λ t u. u ≡ t) old.tables new.tables
+  pub faults : CountsFault (IsErrOf r refusal.KeeperFault) old.faults new.faults
+  pub applies : new.applies ≡ old.applies

@@ -1,6 +1,5 @@
 //! Making a prepared change.
-ghost use Rattle.std.specs.Prelude.{◌≡◌, ◌≤◌, ◌+◌, length, ℕ};
-ghost use Rattle.keeper_store.specs.Goes.{Goes, RoseByOneAtMost};
+ghost use Rattle.std.specs.Prelude.{◌≡◌, ◌+◌, length, ℕ};
 ghost use Rattle.keeper_store.specs.Changes.{changed, changed_all};
 ghost use Rattle.catalogue_core.specs.Committing.{Commits, Fits};
 ghost use Rattle.catalogue_core.specs.Kept.{kept_tables, HasRoom};
@@ -15,13 +14,7 @@ use library_model::Reply;
 /// takes no memory of its own.
 pub fn commit<D: Keeper>(library: &mut Library, ready: Prepared, keeper: &mut D) -> Reply
     requires { Fits library.old ready }
-    ensures commits { Commits ready (kept_tables library.old) (kept_tables library.new) (D.faults keeper.old) (D.faults keeper.new) result }
-
-    // Where the library keeps the keeper's tables, it keeps them again.
-    ensures tables { Goes (λ old new. old ≡ kept_tables library.old → new ≡ kept_tables library.new)
-        (D.tables keeper.old) (D.tables keeper.new) }
-    ensures later { D.faults keeper.old ≤ D.faults keeper.new }
-    ensures applies { RoseByOneAtMost (D.applies keeper.old) (D.applies keeper.new) }
+    ensures { Commits ready library.old library.new (D.shown keeper.old) (D.shown keeper.new) result }
 {
     let Prepared {
         batch,

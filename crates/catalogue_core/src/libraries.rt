@@ -1,9 +1,4 @@
 //! The library: the rows that it keeps, and its opening.
-ghost use Rattle.std.specs.Prelude.{◌≡◌, ◌≤◌, IfOk, IfSome, IsErrOf};
-ghost use Rattle.lib_base.specs.Faults.{Rose};
-ghost use Rattle.keeper_store.specs.Goes.{Goes};
-ghost use Rattle.keeper_store.specs.Changes.{empty_tables};
-
 use crate::opening::{bad_row, library_of};
 use keeper_store::{Keeper, RecordingRow, SegmentRow};
 use lib_base::Outside;
@@ -41,17 +36,11 @@ pub struct Library {
 }
 
 impl Library {
-    ghost use Rattle.catalogue_core.specs.Kept.{kept_tables};
-    ghost use Rattle.catalogue_core.specs.Opening.{OpensOver};
+    ghost use Rattle.catalogue_core.specs.Opening.{Opens};
 
     /// Opens the library of the tables that the keeper loads. Tables that are not empty are refused.
     pub fn open<D: Keeper>(alloc: Global, keeper: &mut D) -> Result<Library, OpenRefusal>
-        ensures opens { IfSome (D.tables keeper.old) (λ t. OpensOver t result) }
-        ensures begins { IfOk result (λ library. kept_tables library ≡ empty_tables) }
-        ensures tables { Goes (λ old new. new ≡ old) (D.tables keeper.old) (D.tables keeper.new) }
-        ensures later { D.faults keeper.old ≤ D.faults keeper.new }
-        ensures cause { IsErrOf result OpenRefusal.KeeperFault → Rose (D.faults keeper.old) (D.faults keeper.new) }
-        ensures applies { D.applies keeper.new ≡ D.applies keeper.old }
+        ensures { Opens (D.shown keeper.old) (D.shown keeper.new) result }
     {
         let tables = match keeper.load() {
             Ok(tables) => tables,

@@ -1,12 +1,9 @@
 //! Deciding a request, and taking all that accepting it wants.
-ghost use Rattle.std.specs.Prelude.{◌≡◌, ◌≤◌, ◌+◌, Some, IfOk};
-ghost use Rattle.keeper_store.specs.Blobs.{OthersKept};
-ghost use Rattle.keeper_store.specs.Goes.{Goes, RoseByOneAtMost};
+ghost use Rattle.std.specs.Prelude.{◌≡◌, IfOk};
 ghost use Rattle.library_model.specs.State.{State};
-ghost use Rattle.catalogue_core.specs.Committing.{Fits};
 ghost use Rattle.catalogue_core.specs.Imports.{StagesAccepted, lacks_numbers};
 ghost use Rattle.catalogue_core.specs.Kept.{kept_tables, Keeps};
-ghost use Rattle.catalogue_core.specs.Staging.{StagedFrom, HoldsFileOf, IfReady, LeavesUnlessFailed};
+ghost use Rattle.catalogue_core.specs.Staging.{StagedFrom, Stages, LeavesUnlessFailed};
 
 use crate::examining::{Examined, examine};
 use crate::importing::prepare_import;
@@ -28,17 +25,11 @@ pub fn stage<V: Vault>(
     vault: &mut V,
 ) -> Result<Staged, Memory>
     ensures staged { (s : State) → Keeps library.old s
-        → IfOk result (StagedFrom s request (V.faults vault.old) (V.faults vault.new)) }
-    ensures fits { IfReady result (Fits library.new) }
-    ensures kept { kept_tables library.new ≡ kept_tables library.old }
+        → IfOk result (StagedFrom s request (V.shown vault.old).faults (V.shown vault.new).faults) }
+    ensures stages { Stages request.command library.old library.new (V.shown vault.old) (V.shown vault.new) result }
 
-    // The vault changes under the next take alone, which holds the file of what is ready, and not at a refusal other than 502.
-    ensures others { Goes (OthersKept (kept_tables library.old).next_take) (V.blobs vault.old) (V.blobs vault.new) }
-    ensures file { IfReady result (λ _. Goes (λ _ new. HoldsFileOf request.command (kept_tables library.old).next_take new)
-        (V.blobs vault.old) (V.blobs vault.new)) }
+    // The vault does not change at a refusal other than 502.
     ensures untouched { LeavesUnlessFailed result vault.old vault.new }
-    ensures later { V.faults vault.old ≤ V.faults vault.new }
-    ensures changes { RoseByOneAtMost (V.changes vault.old) (V.changes vault.new) }
 {
     let Request { command } = request;
     match command {
@@ -52,15 +43,9 @@ fn stage_import<V: Vault>(
     vault: &mut V,
 ) -> Result<Staged, Memory>
     ensures staged { (s : State) → Keeps library.old s
-        → IfOk result (StagedFrom s (record { command = Command.Import file }) (V.faults vault.old) (V.faults vault.new)) }
-    ensures fits { IfReady result (Fits library.new) }
-    ensures kept { kept_tables library.new ≡ kept_tables library.old }
-    ensures others { Goes (OthersKept (kept_tables library.old).next_take) (V.blobs vault.old) (V.blobs vault.new) }
-    ensures file { IfReady result (λ _. Goes (λ _ new. new (kept_tables library.old).next_take ≡ Some file)
-        (V.blobs vault.old) (V.blobs vault.new)) }
+        → IfOk result (StagedFrom s (record { command = Command.Import file }) (V.shown vault.old).faults (V.shown vault.new).faults) }
+    ensures stages { Stages (Command.Import file) library.old library.new (V.shown vault.old) (V.shown vault.new) result }
     ensures untouched { LeavesUnlessFailed result vault.old vault.new }
-    ensures later { V.faults vault.old ≤ V.faults vault.new }
-    ensures changes { RoseByOneAtMost (V.changes vault.old) (V.changes vault.new) }
 {
     match examine(library.alloc, file.as_slice())? {
         Examined::Broken(fault) => Ok(Staged::Refused(refuse_format(library.alloc, fault)?)),
@@ -75,16 +60,10 @@ fn stage_accepted<V: Vault>(
     measure: &Measure,
     vault: &mut V,
 ) -> Result<Staged, Memory>
-    ensures stages { IfOk result
-        (StagesAccepted (kept_tables library.old) file.now measure.now (V.faults vault.old) (V.faults vault.new)) }
-    ensures fits { IfReady result (Fits library.new) }
-    ensures kept { kept_tables library.new ≡ kept_tables library.old }
-    ensures others { Goes (OthersKept (kept_tables library.old).next_take) (V.blobs vault.old) (V.blobs vault.new) }
-    ensures file { IfReady result (λ _. Goes (λ _ new. new (kept_tables library.old).next_take ≡ Some file.now)
-        (V.blobs vault.old) (V.blobs vault.new)) }
+    ensures accepted { IfOk result (StagesAccepted (kept_tables library.old) file.now measure.now
+        (V.shown vault.old).faults (V.shown vault.new).faults) }
+    ensures stages { Stages (Command.Import file.now) library.old library.new (V.shown vault.old) (V.shown vault.new) result }
     ensures untouched { LeavesUnlessFailed result vault.old vault.new }
-    ensures later { V.faults vault.old ≤ V.faults vault.new }
-    ensures changes { RoseByOneAtMost (V.changes vault.old) (V.changes vault.new) }
 {
     let alloc = library.alloc;
     if has_no_number(library) {

@@ -27,8 +27,8 @@ fn import(
     keeper: &mut MemKeeper,
     vault: &mut MemVault,
 ) -> Result<Reply, Memory>
-    requires { ⟦<MemKeeper as Keeper>⟧.tables keeper.old ≡ Some (kept_tables library.old) }
-    ensures { ⟦<MemKeeper as Keeper>⟧.tables keeper.new ≡ Some (kept_tables library.new) }
+    requires { (⟦<MemKeeper as Keeper>⟧.shown keeper.old).tables ≡ Some (kept_tables library.old) }
+    ensures { (⟦<MemKeeper as Keeper>⟧.shown keeper.new).tables ≡ Some (kept_tables library.new) }
 {
     let bytes = Bytes::copy(library.alloc, file)?;
     let request = Request {

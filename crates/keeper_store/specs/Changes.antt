@@ -1,5 +1,5 @@
 -- The tables, and what changes make of them.
-use Rattle.std.specs.Prelude.{◌≡◌, List, [], ◌∷◌, Result, IfOk, OnOk, OnErr}
+use Rattle.std.specs.Prelude.{List, [], ◌∷◌}
 use Rattle.keeper_store.specs.declared.contents.Tables.{Tables}
 use Rattle.keeper_store.specs.declared.contents.Change.{Change}
 use Rattle.keeper_store.specs.declared.contents.Change.TheVariants.{Counters, PutRecording, PutSegments}
@@ -27,11 +27,3 @@ changed (PutSegments row) t = record t { segments = put segments_less row t.segm
 abbrev pub changed_all : List Change → Tables → Tables
 changed_all [] t = t
 changed_all (c ∷ cs) t = changed_all cs (changed c t)
-
--- a load leaves the tables, and on Ok it gives them
-abbrev pub Loads : {E : Type 0} → Result Tables E → Tables → Tables → Type 0
-Loads r old new = (new ≡ old) × IfOk r (λ t. t ≡ old)
-
--- on Ok all the changes were made, and a refusal left the tables
-abbrev pub Applies : {T E : Type 0} → List Change → Result T E → Tables → Tables → Type 0
-Applies changes r old new = OnOk r (new ≡ changed_all changes old) × OnErr r (new ≡ old)

@@ -1,8 +1,7 @@
 //! Where tables are kept.
 ghost use Rattle.std.specs.Prelude.{◌≡◌, ◌≤◌, ◌↔◌, ℕ, nat_lt, Option, Some, IsErrOf, IfOk, OnOk};
-ghost use Rattle.lib_base.specs.Faults.{Rose};
-ghost use Rattle.keeper_store.specs.Goes.{Goes, RoseByOneAtMost};
-ghost use Rattle.keeper_store.specs.Changes.{Loads, Applies, changed, changed_all};
+ghost use Rattle.keeper_store.specs.Keepers.{Loads, Applies};
+ghost use Rattle.keeper_store.specs.Changes.{changed, changed_all};
 ghost use Rattle.keeper_store.specs.Puts.{put};
 ghost use Rattle.lib_base.specs.Plan.{CountsCall, IsDue};
 
@@ -14,30 +13,18 @@ use std::mem;
 
 /// A keeper of tables.
 pub trait Keeper {
-    ghost use Rattle.keeper_store.specs.declared.contents.Tables.{Tables};
+    ghost use Rattle.keeper_store.specs.Keepers.{KeeperView};
 
-    /// The tables, where the object tells them.
-    ghost tables: { Self → Option Tables };
-
-    /// How many faults it has counted, held to the last value of its counter.
-    ghost faults: { Self → ℕ };
-
-    /// How many calls of `apply` there were, held to the last value of its counter.
-    ghost applies: { Self → ℕ };
+    /// What it tells.
+    ghost shown: { Self → KeeperView };
 
     /// Loads the tables, and leaves them.
     fn load(&mut self) -> Result<Tables, Outside>
-        ensures content { Goes (Loads result) (tables self.old) (tables self.new) }
-        ensures later { faults self.old ≤ faults self.new }
-        ensures cause { IsErrOf result Outside.Failed → Rose (faults self.old) (faults self.new) }
-        ensures applies { applies self.new ≡ applies self.old };
+        ensures { Loads (shown self.old) (shown self.new) result };
 
     /// Makes all the changes of the batch, one after another. A refusal makes none.
     fn apply(&mut self, batch: &Batch) -> Result<(), Outside>
-        ensures content { Goes (Applies batch.now.changes result) (tables self.old) (tables self.new) }
-        ensures later { faults self.old ≤ faults self.new }
-        ensures cause { IsErrOf result Outside.Failed → Rose (faults self.old) (faults self.new) }
-        ensures applies { RoseByOneAtMost (applies self.old) (applies self.new) };
+        ensures { Applies batch.now.changes (shown self.old) (shown self.new) result };
 }
 
 /// A keeper in memory, which tells its tables.
@@ -55,9 +42,8 @@ impl MemKeeper {
     /// A keeper of these tables, which takes no memory. `failing` numbers the calls of `load` and
     /// `apply` together that fail, from 1.
     pub fn new(alloc: Global, tables: Tables, failing: Vec<u32>) -> MemKeeper
-        ensures told { ⟦<MemKeeper as Keeper>⟧.tables result ≡ Some tables }
-        ensures faults { ⟦<MemKeeper as Keeper>⟧.faults result ≡ 0 }
-        ensures applies { ⟦<MemKeeper as Keeper>⟧.applies result ≡ 0 }
+        ensures told { ⟦<MemKeeper as Keeper>⟧.shown result
+            ≡ record { tables = Some tables; faults = 0; applies = 0 } }
         ensures plan { keeper_plan result ≡ record { failing = failing.items; calls = 0; faults = 0 } }
     {
         MemKeeper {
@@ -79,19 +65,13 @@ impl MemKeeper {
 impl Keeper for MemKeeper {
     ghost use Rattle.keeper_store.specs.Memory.{keeper_plan};
 
-    ghost tables = { λ k. Some k.tables };
-
-    ghost faults = { λ k. k.plan.faults };
-
-    ghost applies = { λ k. k.applies };
+    ghost shown = { λ k. record { tables = Some k.tables; faults = k.plan.faults; applies = k.applies } };
 
     fn load(&mut self) -> Result<Tables, Outside>
-        ensures content { Goes (Loads result) (⟦<MemKeeper as Keeper>⟧.tables self.old) (⟦<MemKeeper as Keeper>⟧.tables self.new) }
-        ensures later { ⟦<MemKeeper as Keeper>⟧.faults self.old ≤ ⟦<MemKeeper as Keeper>⟧.faults self.new }
-        ensures cause { IsErrOf result Outside.Failed → Rose (⟦<MemKeeper as Keeper>⟧.faults self.old) (⟦<MemKeeper as Keeper>⟧.faults self.new) }
-        ensures applies { ⟦<MemKeeper as Keeper>⟧.applies self.new ≡ ⟦<MemKeeper as Keeper>⟧.applies self.old }
+        ensures loads { Loads (⟦<MemKeeper as Keeper>⟧.shown self.old) (⟦<MemKeeper as Keeper>⟧.shown self.new) result }
         ensures fails { IsErrOf result Outside.Failed ↔ IsDue (keeper_plan self.new) }
-        ensures quiet { OnOk result (⟦<MemKeeper as Keeper>⟧.faults self.new ≡ ⟦<MemKeeper as Keeper>⟧.faults self.old) }
+        ensures quiet { OnOk result ((⟦<MemKeeper as Keeper>⟧.shown self.new).faults
+            ≡ (⟦<MemKeeper as Keeper>⟧.shown self.old).faults) }
         ensures plan { CountsCall (keeper_plan self.old) (keeper_plan self.new) }
     {
         if self.plan.call().is_err() {
@@ -102,12 +82,11 @@ impl Keeper for MemKeeper {
     }
 
     fn apply(&mut self, batch: &Batch) -> Result<(), Outside>
-        ensures content { Goes (Applies batch.now.changes result) (⟦<MemKeeper as Keeper>⟧.tables self.old) (⟦<MemKeeper as Keeper>⟧.tables self.new) }
-        ensures later { ⟦<MemKeeper as Keeper>⟧.faults self.old ≤ ⟦<MemKeeper as Keeper>⟧.faults self.new }
-        ensures cause { IsErrOf result Outside.Failed → Rose (⟦<MemKeeper as Keeper>⟧.faults self.old) (⟦<MemKeeper as Keeper>⟧.faults self.new) }
-        ensures applies { RoseByOneAtMost (⟦<MemKeeper as Keeper>⟧.applies self.old) (⟦<MemKeeper as Keeper>⟧.applies self.new) }
+        ensures applies { Applies batch.now.changes (⟦<MemKeeper as Keeper>⟧.shown self.old)
+            (⟦<MemKeeper as Keeper>⟧.shown self.new) result }
         ensures fails { IsErrOf result Outside.Failed ↔ IsDue (keeper_plan self.new) }
-        ensures quiet { OnOk result (⟦<MemKeeper as Keeper>⟧.faults self.new ≡ ⟦<MemKeeper as Keeper>⟧.faults self.old) }
+        ensures quiet { OnOk result ((⟦<MemKeeper as Keeper>⟧.shown self.new).faults
+            ≡ (⟦<MemKeeper as Keeper>⟧.shown self.old).faults) }
         ensures plan { CountsCall (keeper_plan self.old) (keeper_plan self.new) }
     {
         self.applies = self.applies.saturating_add(1);

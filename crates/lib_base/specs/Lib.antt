@@ -6,4 +6,5 @@ pub mod MemoryPlans
 pub mod Plan
 pub mod Rules
 pub mod Sounds
+pub mod Sources
 pub mod Writes

@@ -1,8 +1,6 @@
 //! Where bytes come from.
 ghost use Rattle.std.specs.Prelude.{OnOk, ◌≡◌, ◌↔◌, ◌≤◌, ◌^◌, ◌++◌, ◌<◌, ◌+◌, ◌-◌, ℕ, List, length, Option, Some, OnErr, IsErr, IfOk, MatchResult, vec_capacity, drop, take, []};
-ghost use Rattle.std.specs.Io.{ReadsAtMost};
-ghost use Rattle.std.specs.Io.KnownBytes.{ReadConsumes, Consumes, IsAtEnd};
-ghost use Rattle.lib_base.specs.Faults.{Rose};
+ghost use Rattle.lib_base.specs.Sources.{Reads, Takes};
 
 use crate::plans::FaultPlan;
 use crate::{Bytes, Failed, Memory};
@@ -10,19 +8,15 @@ use std::alloc::Global;
 
 /// A source of bytes.
 pub trait Source {
-    /// The bytes that are left, where the object tells them.
-    ghost left: { Self → Option (List ℕ) };
+    ghost use Rattle.lib_base.specs.Sources.{SourceView};
 
-    /// How many faults it has counted, held to the last value of its counter.
-    ghost faults: { Self → ℕ };
+    /// What it tells.
+    ghost shown: { Self → SourceView };
 
     /// Moves bytes from the front of what is left to the front of `into`. Zero for a piece that
     /// isn't empty means that the source is at its end. A refusal moves none.
     fn read(&mut self, into: &mut [u8]) -> Result<usize, Failed>
-        ensures within { ReadsAtMost result into.new }
-        ensures content { ReadConsumes (left self.old) (left self.new) result into.new }
-        ensures later { faults self.old ≤ faults self.new }
-        ensures cause { OnErr result (Rose (faults self.old) (faults self.new)) };
+        ensures { Reads (shown self.old) (shown self.new) into.new result };
 }
 
 /// Why a reading of many pieces ended.
@@ -49,15 +43,8 @@ const PIECE: usize = 4096;
 /// source as it was.
 pub fn read_up_to<S: Source>(alloc: Global, source: &mut S, most: usize) -> Result<Taken, Memory>
     ensures refused { OnErr result (source.new ≡ source.old) }
-    ensures content { IfOk result (λ taken. Consumes (S.left source.old) (S.left source.new) taken.bytes) }
-    ensures within { IfOk result (λ taken. length taken.bytes ≤ most) }
-    ensures at_end { IfOk result (λ taken. taken.end ≡ ReadEnd.End → IsAtEnd (S.left source.new)) }
-    ensures short { IfOk result (λ taken. taken.end ≡ ReadEnd.End → length taken.bytes < most) }
-    ensures full { IfOk result (λ taken. taken.end ≡ ReadEnd.Full → length taken.bytes ≡ most) }
-    ensures cause { IfOk result (λ taken. taken.end ≡ ReadEnd.Fault
-        → Rose (S.faults source.old) (S.faults source.new)) }
-    ensures cut { IfOk result (λ taken. taken.end ≡ ReadEnd.Fault → length taken.bytes < most) }
-    ensures later { S.faults source.old ≤ S.faults source.new }
+    ensures takes { IfOk result (λ taken.
+        Takes (S.shown source.old) (S.shown source.new) most taken.bytes taken.end) }
 {
     let mut bytes = Vec::with_capacity(alloc, most)?;
     let end = read_pieces(source, &mut [0; PIECE], &mut bytes, most);
@@ -77,14 +64,7 @@ fn read_pieces<S: Source>(
     requires buffer { 0 < length buffer.old }
     requires empty { bytes.old.items ≡ [] }
     requires room { most ≤ vec_capacity bytes.old }
-    ensures content { Consumes (S.left source.old) (S.left source.new) bytes.new.items }
-    ensures within { length bytes.new.items ≤ most }
-    ensures at_end { result ≡ ReadEnd.End → IsAtEnd (S.left source.new) }
-    ensures short { result ≡ ReadEnd.End → length bytes.new.items < most }
-    ensures full { result ≡ ReadEnd.Full → length bytes.new.items ≡ most }
-    ensures cause { result ≡ ReadEnd.Fault → Rose (S.faults source.old) (S.faults source.new) }
-    ensures cut { result ≡ ReadEnd.Fault → length bytes.new.items < most }
-    ensures later { S.faults source.old ≤ S.faults source.new }
+    ensures { Takes (S.shown source.old) (S.shown source.new) most bytes.new.items result }
 {
     'pieces: while bytes.len() < most {
         let room = buffer.len().min(most - bytes.len());
@@ -104,13 +84,10 @@ fn read_onto<S: Source>(
     bytes: &mut Vec<u8>,
 ) -> Result<usize, Failed>
     requires room { length bytes.old.items + length piece.old ≤ vec_capacity bytes.old }
-    ensures within { ReadsAtMost result piece.new }
-    ensures content { ReadConsumes (S.left source.old) (S.left source.new) result piece.new }
+    ensures reads { Reads (S.shown source.old) (S.shown source.new) piece.new result }
     ensures appended { MatchResult result (λ count. bytes.new.items ≡ bytes.old.items ++ take count piece.new)
         (λ _. bytes.new.items ≡ bytes.old.items) }
     ensures capacity { vec_capacity bytes.old ≤ vec_capacity bytes.new }
-    ensures later { S.faults source.old ≤ S.faults source.new }
-    ensures cause { OnErr result (Rose (S.faults source.old) (S.faults source.new)) }
 {
     let count = source.read(piece)?;
     match bytes.extend_from_slice(piece.split_at(count).0) {
@@ -134,8 +111,7 @@ impl MemSource {
 
     /// A source of these bytes. `failing` numbers the reads that fail, from 1.
     pub fn new(bytes: Bytes, failing: Vec<u32>) -> MemSource
-        ensures told { ⟦<MemSource as Source>⟧.left result ≡ Some bytes }
-        ensures counted { ⟦<MemSource as Source>⟧.faults result ≡ 0 }
+        ensures told { ⟦<MemSource as Source>⟧.shown result ≡ record { left = Some bytes; faults = 0 } }
         ensures plan { source_plan result ≡ first_plan failing.items }
     {
         MemSource {
@@ -146,7 +122,7 @@ impl MemSource {
     }
 
     pub(crate) fn faults(&self) -> u64
-        ensures { result ≡ ⟦<MemSource as Source>⟧.faults self.now }
+        ensures { result ≡ (⟦<MemSource as Source>⟧.shown self.now).faults }
     {
         self.plan.faults()
     }
@@ -156,22 +132,16 @@ impl Source for MemSource {
     ghost use Rattle.lib_base.specs.MemoryPlans.{source_plan};
     ghost use Rattle.lib_base.specs.Plan.{CountsCall, IsDue};
 
-    ghost left = { λ s. Some (drop s.at s.bytes) };
-
-    ghost faults = { λ s. s.plan.faults };
+    ghost shown = { λ s. record { left = Some (drop s.at s.bytes); faults = s.plan.faults } };
 
     /// Fails exactly where the number of this call is due to fail.
     fn read(&mut self, into: &mut [u8]) -> Result<usize, Failed>
-        ensures within { ReadsAtMost result into.new }
-        ensures content { ReadConsumes (⟦<MemSource as Source>⟧.left self.old)
-            (⟦<MemSource as Source>⟧.left self.new) result into.new }
-        ensures later { ⟦<MemSource as Source>⟧.faults self.old
-            ≤ ⟦<MemSource as Source>⟧.faults self.new }
-        ensures cause { OnErr result (Rose (⟦<MemSource as Source>⟧.faults self.old)
-            (⟦<MemSource as Source>⟧.faults self.new)) }
+        ensures reads { Reads (⟦<MemSource as Source>⟧.shown self.old)
+            (⟦<MemSource as Source>⟧.shown self.new) into.new result }
         ensures call { CountsCall (source_plan self.old) (source_plan self.new) }
         ensures fails { IsErr result ↔ IsDue (source_plan self.new) }
-        ensures quiet { OnOk result (⟦<MemSource as Source>⟧.faults self.new ≡ ⟦<MemSource as Source>⟧.faults self.old) }
+        ensures quiet { OnOk result ((⟦<MemSource as Source>⟧.shown self.new).faults
+            ≡ (⟦<MemSource as Source>⟧.shown self.old).faults) }
     {
         self.plan.call()?;
         let count = copy_from(&self.bytes, self.at, into);

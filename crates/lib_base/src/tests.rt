@@ -116,8 +116,8 @@ fn fails_writes_by_number(rt: HostRuntime) -> Result<(), Fail> {
 
 /// Reads all that the next connection brings, and answers with it.
 fn echo<D: Door>(alloc: Global, door: &mut D) -> Result<(), Outside>
-    requires { D.is_out door.old ≡ false }
-    ensures { D.is_out door.new ≡ false }
+    requires { (D.shown door.old).is_out ≡ false }
+    ensures { (D.shown door.new).is_out ≡ false }
 {
     let (mut source, mut sink) = door.next()?;
     let answer = match read_up_to(alloc, &mut source, 9) {

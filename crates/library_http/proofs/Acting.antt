@@ -8,6 +8,9 @@ use Rattle.keeper_store.specs.Blobs.{Blobs, OthersKept}
 use Rattle.keeper_store.specs.Changes.{changed_all}
 use Rattle.keeper_store.specs.declared.contents.Tables.{Tables}
 use Rattle.keeper_store.specs.Goes.{Goes}
+use Rattle.keeper_store.specs.Keepers.{KeeperView}
+use Rattle.keeper_store.specs.Vaults.{VaultView}
+use Rattle.library_model.specs.declared.messages.Command.{Command}
 use Rattle.library_model.specs.declared.messages.Reply.{Reply}
 use Rattle.library_model.specs.declared.messages.Request.{Request}
 use Rattle.library_model.specs.declared.messages.Question.{Question}
@@ -21,8 +24,9 @@ use Rattle.library_model.proofs.Imports.{HoldsFiles-kept}
 use Rattle.catalogue_core.specs.Committing.{Commits}
 use Rattle.catalogue_core.specs.declared.libraries.Library.{Library}
 use Rattle.catalogue_core.specs.declared.prepared.Prepared.{Prepared}
+use Rattle.catalogue_core.specs.declared.prepared.Staged.{Staged}
 use Rattle.catalogue_core.specs.Kept.{kept_tables, Keeps}
-use Rattle.catalogue_core.specs.Staging.{Prepares, RefusesBy, HoldsFileOf}
+use Rattle.catalogue_core.specs.Staging.{Prepares, RefusesBy, HoldsFileOf, Stages}
 use Rattle.library_http.specs.Sessions.{Acts, Counts, Leads, IsSettled, reply_given}
 use Rattle.library_http.specs.World.{World, world, RoseBy}
 use Rattle.library_http.proofs.Goings.{Goes-same, Goes-weaker}
@@ -60,8 +64,8 @@ RoseBy-one : (many before now : ℕ) → many ≡ 1 → RoseBy 1 before now → 
 RoseBy-one many before now one rose = omega arith
 
 -- a reply that is neither 502 nor 504 asks for no fault
-Counts-neither : (reply : Reply) (w0 w1 : World) → reply.status ≢ 502 → reply.status ≢ 504 → w0.vault_faults ≤ w1.vault_faults
-    → w0.keeper_faults ≤ w1.keeper_faults → Counts (reply ∷ []) w0 w1
+Counts-neither : (reply : Reply) (w0 w1 : World) → reply.status ≢ 502 → reply.status ≢ 504 → w0.vault.faults ≤ w1.vault.faults
+    → w0.keeper.faults ≤ w1.keeper.faults → Counts (reply ∷ []) w0 w1
 Counts-neither reply w0 w1 vault keeper vault_later keeper_later = record {
   vault = RoseBy-none _ _ _ (count_status-other reply 502 vault) vault_later;
   keeper = RoseBy-none _ _ _ (count_status-other reply 504 keeper) keeper_later;
@@ -69,8 +73,8 @@ Counts-neither reply w0 w1 vault keeper vault_later keeper_later = record {
 
 -- without a fault that was counted, an answer is the one that is decided, or memory was wanting
 settled_without_faults : (s : State) (request : Asked) (reply : Reply) (next : State) (w0 w1 : World)
-    → Answer s request reply next → Counts (reply ∷ []) w0 w1 → ¬ Rose w0.vault_faults w1.vault_faults
-    → ¬ Rose w0.keeper_faults w1.keeper_faults → IsSettled s request reply next
+    → Answer s request reply next → Counts (reply ∷ []) w0 w1 → ¬ Rose w0.vault.faults w1.vault.faults
+    → ¬ Rose w0.keeper.faults w1.keeper.faults → IsSettled s request reply next
 settled_without_faults s request reply next w0 w1 answer counts vault keeper = by_way answer.way answer.answers
   where
     by_way : (way : Way) → AnswersBy way s request reply next → IsSettled s request reply next
@@ -79,16 +83,16 @@ settled_without_faults s request reply next w0 w1 answer counts vault keeper = b
     by_way (vault_failed verdict) answers =
         let counted : count_status 502 (reply ∷ []) ≡ 1 =
         count_status-same reply 502 (ap (λ (r : Reply). r.status) answers.2) in
-        absurd (vault (subst (λ (n : ℕ). RoseBy n w0.vault_faults w1.vault_faults) counted counts.vault))
+        absurd (vault (subst (λ (n : ℕ). RoseBy n w0.vault.faults w1.vault.faults) counted counts.vault))
     by_way (keeper_failed verdict) answers =
         let counted : count_status 504 (reply ∷ []) ≡ 1 =
         count_status-same reply 504 (ap (λ (r : Reply). r.status) answers.2) in
-        absurd (keeper (subst (λ (n : ℕ). RoseBy n w0.keeper_faults w1.keeper_faults) counted counts.keeper))
+        absurd (keeper (subst (λ (n : ℕ). RoseBy n w0.keeper.faults w1.keeper.faults) counted counts.keeper))
 
 -- an answer acts that leads the library so, with its faults counted, and the vault changed under the next take alone
 Acts-of : (s : State) (request : Asked) (reply : Reply) (next : State) (w0 w1 : World) → Answer s request reply next
-    → Leads s next w0 w1 → Counts (reply ∷ []) w0 w1 → (IsQuestion request → w1.vault_calls ≡ w0.vault_calls)
-    → Goes (OthersKept s.next_take) w0.blobs w1.blobs → Acts s request reply w0 w1
+    → Leads s next w0 w1 → Counts (reply ∷ []) w0 w1 → (IsQuestion request → w1.vault.calls ≡ w0.vault.calls)
+    → Goes (OthersKept s.next_take) w0.vault.blobs w1.vault.blobs → Acts s request reply w0 w1
 Acts-of s request reply next w0 w1 answer leads counts calls keys = record {
   next = next;
   answers = answer;
@@ -114,48 +118,51 @@ differs_from : (m n k : ℕ) → m ≡ n → n ≢ k → m ≢ k
 differs_from m n k is differs e = differs (sym is ∙ e)
 
 -- The library keeps what it kept, and the vault changed under the next take alone: the state stays.
-pub Leads-kept : (s : State) (lib0 lib2 : Library) (tables0 tables2 : Option Tables) (blobs0 blobs2 : Option Blobs) (kf0 kf2 vf0 vf2 vc0 vc2 : ℕ)
-    → Keeps lib0 s → kept_tables lib2 ≡ kept_tables lib0
-    → Goes (OthersKept (kept_tables lib0).next_take) blobs0 blobs2
-    → Goes (λ old new. old ≡ kept_tables lib0 → new ≡ kept_tables lib2) tables0 tables2
-    → Leads s s (world lib0 tables0 blobs0 kf0 vf0 vc0) (world lib2 tables2 blobs2 kf2 vf2 vc2)
-Leads-kept s lib0 lib2 tables0 tables2 blobs0 blobs2 kf0 kf2 vf0 vf2 vc0 vc2 keeps same others tables =
+Leads-kept : (s : State) (w0 w2 : World) → Keeps w0.library s → kept_tables w2.library ≡ kept_tables w0.library
+    → Goes (OthersKept (kept_tables w0.library).next_take) w0.vault.blobs w2.vault.blobs
+    → Goes (λ t u. t ≡ kept_tables w0.library → u ≡ kept_tables w2.library) w0.keeper.tables w2.keeper.tables
+    → Leads s s w0 w2
+Leads-kept s w0 w2 keeps same others tables =
     let take = ap (λ (t : Tables). t.next_take) keeps.rows in
     record {
       keeps = record { valid = keeps.valid; rows = same ∙ keeps.rows };
-      rows = Goes-weaker _ _ (λ old new f is. f (is ∙ sym keeps.rows) ∙ same ∙ keeps.rows) tables0 tables2 tables;
-      files = Goes-weaker _ _ (λ old new kept held. HoldsFiles-kept s old new keeps.valid held (rw take at kept)) blobs0 blobs2 others;
+      rows = Goes-weaker _ _ (λ old new f is. f (is ∙ sym keeps.rows) ∙ same ∙ keeps.rows) w0.keeper.tables w2.keeper.tables tables;
+      files = Goes-weaker _ _ (λ old new kept held. HoldsFiles-kept s old new keeps.valid held (rw take at kept)) w0.vault.blobs w2.vault.blobs others;
     }
 
+-- what staging left leads to the state that it began in, where the keeper was not called
+Leads-staged : (s : State) (command : Command) (r : Result Staged Memory) (lib0 lib1 : Library) (keeper : KeeperView) (vault0 vault1 : VaultView)
+    → Keeps lib0 s → Stages command lib0 lib1 vault0 vault1 r → Leads s s (world lib0 keeper vault0) (world lib1 keeper vault1)
+Leads-staged s command r lib0 lib1 keeper vault0 vault1 keeps stages =
+    Leads-kept s (world lib0 keeper vault0) (world lib1 keeper vault1) keeps stages.kept stages.others
+    (Goes-same (λ t u. t ≡ kept_tables lib0 → u ≡ kept_tables lib1) (λ t is. is ∙ sym stages.kept) keeper.tables)
+
 -- want of memory acts with no change
-pub Acts-memory : (s : State) (request : Request) (lib0 lib1 : Library) (tables : Option Tables) (blobs0 blobs1 : Option Blobs)
-    (kf vf0 vf1 vc0 vc1 : ℕ) → Keeps lib0 s → kept_tables lib1 ≡ kept_tables lib0 → vf0 ≤ vf1
-    → Goes (OthersKept (kept_tables lib0).next_take) blobs0 blobs1
-    → Goes (λ old new. old ≡ kept_tables lib0 → new ≡ kept_tables lib1) tables tables
-    → Acts s (change request) memory_refusal (world lib0 tables blobs0 kf vf0 vc0) (world lib1 tables blobs1 kf vf1 vc1)
-Acts-memory s request lib0 lib1 tables blobs0 blobs1 kf vf0 vf1 vc0 vc1 keeps same later others went =
+pub Acts-memory : (s : State) (request : Request) (r : Result Staged Memory) (lib0 lib1 : Library) (keeper : KeeperView)
+    (vault0 vault1 : VaultView) → Keeps lib0 s → Stages request.command lib0 lib1 vault0 vault1 r
+    → Acts s (change request) memory_refusal (world lib0 keeper vault0) (world lib1 keeper vault1)
+Acts-memory s request r lib0 lib1 keeper vault0 vault1 keeps stages =
     Acts-of s (change request) memory_refusal s _ _
     (record { way = without_memory; answers = (refl, refl) })
-    (Leads-kept s lib0 lib1 tables tables blobs0 blobs1 kf kf vf0 vf1 vc0 vc1 keeps same others went)
-    (Counts-neither memory_refusal _ _ (differs_from 503 503 502 refl (omega arith)) (differs_from 503 503 504 refl (omega arith)) later (omega arith))
+    (Leads-staged s request.command r lib0 lib1 keeper vault0 vault1 keeps stages)
+    (Counts-neither memory_refusal _ _ (differs_from 503 503 502 refl (omega arith)) (differs_from 503 503 504 refl (omega arith)) stages.later (omega arith))
     (λ is. absurd is)
-    (keys-of s lib0 blobs0 blobs1 keeps others)
+    (keys-of s lib0 vault0.blobs vault1.blobs keeps stages.others)
 
 -- a refusal acts with no change
-pub Acts-refused : (s : State) (request : Request) (reply : Reply) (lib0 lib1 : Library) (tables : Option Tables)
-    (blobs0 blobs1 : Option Blobs) (kf vf0 vf1 vc0 vc1 : ℕ) → Keeps lib0 s → kept_tables lib1 ≡ kept_tables lib0 → vf0 ≤ vf1
-    → Goes (OthersKept (kept_tables lib0).next_take) blobs0 blobs1
-    → Goes (λ old new. old ≡ kept_tables lib0 → new ≡ kept_tables lib1) tables tables → RefusesBy s request reply vf0 vf1
-    → Acts s (change request) reply (world lib0 tables blobs0 kf vf0 vc0) (world lib1 tables blobs1 kf vf1 vc1)
-Acts-refused s request reply lib0 lib1 tables blobs0 blobs1 kf vf0 vf1 vc0 vc1 keeps same later others went refuses =
+pub Acts-refused : (s : State) (request : Request) (reply : Reply) (r : Result Staged Memory) (lib0 lib1 : Library) (keeper : KeeperView)
+    (vault0 vault1 : VaultView) → Keeps lib0 s → Stages request.command lib0 lib1 vault0 vault1 r
+    → RefusesBy s request reply vault0.faults vault1.faults
+    → Acts s (change request) reply (world lib0 keeper vault0) (world lib1 keeper vault1)
+Acts-refused s request reply r lib0 lib1 keeper vault0 vault1 keeps stages refuses =
     Acts-of s (change request) reply s _ _ refuses.answers
-    (Leads-kept s lib0 lib1 tables tables blobs0 blobs1 kf kf vf0 vf1 vc0 vc1 keeps same others went)
+    (Leads-staged s request.command r lib0 lib1 keeper vault0 vault1 keeps stages)
     (record {
-      vault = rose_as (reply.status == 502) vf0 vf1 (λ h. refuses.vault (tested _ _ h)) later;
+      vault = rose_as (reply.status == 502) vault0.faults vault1.faults (λ h. refuses.vault (tested _ _ h)) stages.later;
       keeper = RoseBy-none _ _ _ (count_status-other reply 504 refuses.keeper) (omega arith);
     })
     (λ is. absurd is)
-    (keys-of s lib0 blobs0 blobs1 keeps others)
+    (keys-of s lib0 vault0.blobs vault1.blobs keeps stages.others)
 
 -- a request that was not looked at acts with no change
 pub Acts-unread : (s : State) (request : Asked) (w : World) → Keeps w.library s → Acts s request memory_refusal w w
@@ -165,7 +172,7 @@ Acts-unread s request w keeps =
     (Leads-same s w keeps)
     (Counts-neither memory_refusal w w (differs_from 503 503 502 refl (omega arith)) (differs_from 503 503 504 refl (omega arith)) (omega arith) (omega arith))
     (λ is. refl)
-    (keys-stay s.next_take w.blobs)
+    (keys-stay s.next_take w.vault.blobs)
 
 -- what is replied to a question has the status 200 or 404
 question_reply-status : (s : State) (asked : Question) → ((question_reply s asked).status ≡ 200) ⊎ ((question_reply s asked).status ≡ 404)
@@ -186,51 +193,47 @@ Acts-asked s asked reply w keeps is =
     (Leads-same s w keeps)
     (Counts-neither reply w w (λ e. omega (arith, status)) (λ e. omega (arith, status)) (omega arith) (omega arith))
     (λ is. refl)
-    (keys-stay s.next_take w.blobs)
+    (keys-stay s.next_take w.vault.blobs)
 
 -- a change that was made acts as the verdict says
-Acts-made : (s : State) (request : Request) (p : Prepared) (reply : Reply) (lib0 lib1 lib2 : Library)
-    (tables0 tables2 : Option Tables) (blobs0 blobs2 : Option Blobs) (kf0 kf2 vf0 vf2 vc0 vc2 : ℕ)
-    → Keeps lib0 s → kept_tables lib1 ≡ kept_tables lib0 → Prepares s request p
-    → Goes (OthersKept (kept_tables lib0).next_take) blobs0 blobs2
-    → Goes (λ _ new. HoldsFileOf request.command (kept_tables lib0).next_take new) blobs0 blobs2
-    → vf0 ≤ vf2 → kf0 ≤ kf2
-    → Goes (λ old new. old ≡ kept_tables lib1 → new ≡ kept_tables lib2) tables0 tables2
+Acts-made : (s : State) (request : Request) (p : Prepared) (reply : Reply) (r : Result Staged Memory) (lib0 lib1 lib2 : Library)
+    (keeper0 keeper2 : KeeperView) (vault0 vault2 : VaultView) → Keeps lib0 s → Stages request.command lib0 lib1 vault0 vault2 r
+    → Prepares s request p → Goes (λ _ blobs. HoldsFileOf request.command (kept_tables lib0).next_take blobs) vault0.blobs vault2.blobs
+    → Commits p lib1 lib2 keeper0 keeper2 reply
     → reply ≡ p.reply → kept_tables lib2 ≡ changed_all p.batch.changes (kept_tables lib1)
-    → Acts s (change request) reply (world lib0 tables0 blobs0 kf0 vf0 vc0) (world lib2 tables2 blobs2 kf2 vf2 vc2)
-Acts-made s request p reply lib0 lib1 lib2 tables0 tables2 blobs0 blobs2 kf0 kf2 vf0 vf2 vc0 vc2 keeps same prepares others put vlater klater went is made =
+    → Acts s (change request) reply (world lib0 keeper0 vault0) (world lib2 keeper2 vault2)
+Acts-made s request p reply r lib0 lib1 lib2 keeper0 keeper2 vault0 vault2 keeps stages prepares put commits is made =
     let take = ap (λ (t : Tables). t.next_take) keeps.rows in
     let rows : kept_tables lib2 ≡ tables_of prepares.next =
-    made ∙ ap (changed_all p.batch.changes) (same ∙ keeps.rows) ∙ prepares.rows in
+    made ∙ ap (changed_all p.batch.changes) (stages.kept ∙ keeps.rows) ∙ prepares.rows in
     let status : reply.status ≡ 201 = ap (λ (r : Reply). r.status) is ∙ prepares.granted in
     Acts-of s (change request) reply prepares.next _ _
     (record { way = as_decided (accepts p.reply prepares.next); answers = (prepares.decides, is, refl) })
     (record {
       keeps = record { valid = prepares.valid; rows = rows };
-      rows = Goes-weaker _ _ (λ old new f old_is. f (old_is ∙ sym keeps.rows ∙ sym same) ∙ rows) tables0 tables2 went;
+      rows = Goes-weaker _ _ (λ old new f old_is. f (old_is ∙ sym keeps.rows ∙ sym stages.kept) ∙ rows)
+          keeper0.tables keeper2.tables commits.tables;
       files = Goes-weaker _ _
           (λ old new both held. prepares.files old new held (rw take at both.0) (rw take at both.1))
-          blobs0 blobs2 (Goes-both _ _ blobs0 blobs2 others put);
+          vault0.blobs vault2.blobs (Goes-both _ _ vault0.blobs vault2.blobs stages.others put);
     })
-    (Counts-neither reply _ _ (differs_from _ 201 502 status (omega arith)) (differs_from _ 201 504 status (omega arith)) vlater klater)
+    (Counts-neither reply _ _ (differs_from _ 201 502 status (omega arith)) (differs_from _ 201 504 status (omega arith)) stages.later commits.later)
     (λ is. absurd is)
-    (keys-of s lib0 blobs0 blobs2 keeps others)
+    (keys-of s lib0 vault0.blobs vault2.blobs keeps stages.others)
 
 -- what a commit answers acts
-pub Acts-committed : (s : State) (request : Request) (p : Prepared) (reply : Reply) (lib0 lib1 lib2 : Library)
-    (tables0 tables2 : Option Tables) (blobs0 blobs2 : Option Blobs) (kf0 kf2 vf0 vf2 vc0 vc2 : ℕ)
-    → Keeps lib0 s → kept_tables lib1 ≡ kept_tables lib0 → Prepares s request p
-    → Goes (OthersKept (kept_tables lib0).next_take) blobs0 blobs2
-    → Goes (λ _ new. HoldsFileOf request.command (kept_tables lib0).next_take new) blobs0 blobs2
-    → vf0 ≤ vf2 → kf0 ≤ kf2
-    → Goes (λ old new. old ≡ kept_tables lib1 → new ≡ kept_tables lib2) tables0 tables2
-    → Commits p (kept_tables lib1) (kept_tables lib2) kf0 kf2 reply
-    → Acts s (change request) reply (world lib0 tables0 blobs0 kf0 vf0 vc0) (world lib2 tables2 blobs2 kf2 vf2 vc2)
-Acts-committed s request p reply lib0 lib1 lib2 tables0 tables2 blobs0 blobs2 kf0 kf2 vf0 vf2 vc0 vc2 keeps same prepares others put vlater klater went commits =
-    let back = Goes-weaker (λ old new. old ≡ kept_tables lib1 → new ≡ kept_tables lib2) (λ old new. old ≡ kept_tables lib0 → new ≡ kept_tables lib2)
-    (λ old new f is. f (is ∙ sym same)) tables0 tables2 went in
-    elim commits [
-      | inl h ↦ Acts-made s request p reply lib0 lib1 lib2 tables0 tables2 blobs0 blobs2 kf0 kf2 vf0 vf2 vc0 vc2 keeps same prepares others put vlater klater went h.0 h.1
+pub Acts-committed : (s : State) (request : Request) (p : Prepared) (reply : Reply) (r : Result Staged Memory) (lib0 lib1 lib2 : Library)
+    (keeper0 keeper2 : KeeperView) (vault0 vault2 : VaultView) → Keeps lib0 s → Stages request.command lib0 lib1 vault0 vault2 r
+    → Prepares s request p → Goes (λ _ blobs. HoldsFileOf request.command (kept_tables lib0).next_take blobs) vault0.blobs vault2.blobs
+    → Commits p lib1 lib2 keeper0 keeper2 reply
+    → Acts s (change request) reply (world lib0 keeper0 vault0) (world lib2 keeper2 vault2)
+Acts-committed s request p reply r lib0 lib1 lib2 keeper0 keeper2 vault0 vault2 keeps stages prepares put commits =
+    let w0 : World = world lib0 keeper0 vault0 in
+    let w2 : World = world lib2 keeper2 vault2 in
+    let back = Goes-weaker (λ t u. t ≡ kept_tables lib1 → u ≡ kept_tables lib2) (λ t u. t ≡ kept_tables lib0 → u ≡ kept_tables lib2)
+    (λ t u f is. f (is ∙ sym stages.kept)) keeper0.tables keeper2.tables commits.tables in
+    elim commits.settles [
+      | inl h ↦ Acts-made s request p reply r lib0 lib1 lib2 keeper0 keeper2 vault0 vault2 keeps stages prepares put commits h.0 h.1
       | inr other ↦ elim other [
         | inl h ↦
             let status : reply.status ≡ 504 = ap (λ (r : Reply). r.status) h.0 in
@@ -239,21 +242,21 @@ Acts-committed s request p reply lib0 lib1 lib2 tables0 tables2 blobs0 blobs2 kf
               way = keeper_failed (accepts p.reply prepares.next);
               answers = (prepares.decides, tt, h.0, refl);
             })
-            (Leads-kept s lib0 lib2 tables0 tables2 blobs0 blobs2 kf0 kf2 vf0 vf2 vc0 vc2 keeps (h.1 ∙ same) others back)
+            (Leads-kept s w0 w2 keeps (h.1 ∙ stages.kept) stages.others back)
             (record {
-              vault = RoseBy-none _ _ _ (count_status-other reply 502 (differs_from _ 504 502 status (omega arith))) vlater;
+              vault = RoseBy-none _ _ _ (count_status-other reply 502 (differs_from _ 504 502 status (omega arith))) stages.later;
               keeper = RoseBy-one _ _ _ (count_status-same reply 504 status) h.2;
             })
             (λ is. absurd is)
-            (keys-of s lib0 blobs0 blobs2 keeps others)
+            (keys-of s lib0 vault0.blobs vault2.blobs keeps stages.others)
         | inr h ↦
             let status : reply.status ≡ 503 = ap (λ (r : Reply). r.status) h.0 in
             Acts-of s (change request) reply s _ _
             (record { way = without_memory; answers = (h.0, refl) })
-            (Leads-kept s lib0 lib2 tables0 tables2 blobs0 blobs2 kf0 kf2 vf0 vf2 vc0 vc2 keeps (h.1 ∙ same) others back)
-            (Counts-neither reply _ _ (differs_from _ 503 502 status (omega arith)) (differs_from _ 503 504 status (omega arith)) vlater klater)
+            (Leads-kept s w0 w2 keeps (h.1 ∙ stages.kept) stages.others back)
+            (Counts-neither reply _ _ (differs_from _ 503 502 status (omega arith)) (differs_from _ 503 504 status (omega arith)) stages.later commits.later)
             (λ is. absurd is)
-            (keys-of s lib0 blobs0 blobs2 keeps others)
+            (keys-of s lib0 vault0.blobs vault2.blobs keeps stages.others)
       ]
     ]
 

@@ -1,6 +1,8 @@
 -- How a session ends, and what it did by then.
 use Rattle.std.proofs.Common.{◌≡◌, ◌≢◌, ◌≤◌, ◌+◌, ℕ, List, [], length, Option, None, Some, refl, sym, subst, true, inl, inr, arith}
 use Rattle.std.specs.Io.KnownBytes.{Consumes, IsAtEnd}
+use Rattle.lib_base.specs.Sources.{SourceView}
+use Rattle.lib_base.specs.Writes.{SinkView}
 use Rattle.lib_base.specs.declared.sources.ReadEnd.{ReadEnd}
 use Rattle.lib_base.specs.declared.sources.ReadEnd.TheVariants.{End, Full, Fault}
 use Rattle.library_model.specs.Framing.{input_limit, ended, unframeable}
@@ -22,15 +24,15 @@ Consumes-none None = tt
 Consumes-none (Some xs) = refl
 
 -- a session that found no memory to read into did nothing
-pub Session-unread : (start : State) (left text : Option (List ℕ)) (w : World) → Keeps w.library start
-    → Session start Memory 0 left left text text w w
-Session-unread start left text w keeps = (
+pub Session-unread : (start : State) (source : SourceView) (sink : SinkView) (w : World) → Keeps w.library start
+    → Session start Memory 0 source source sink sink w w
+Session-unread start source sink w keeps = (
   [],
-  Consumes-none left,
+  Consumes-none source.left,
   inr (inr (record {
     nothing = refl;
     none = refl;
-    written = Appends-none text;
+    written = Appends-none sink.written;
     leads = Leads-same start w keeps;
     counts = Counts-none w;
     calls = refl;
@@ -38,12 +40,12 @@ Session-unread start left text w keeps = (
 )
 
 -- an input that is too long is refused alone
-pub Session-too-long : (start : State) (how : How) (left rest text0 text1 : Option (List ℕ)) (input : List ℕ) (w : World)
-    → Keeps w.library start → length input ≡ input_limit + 1 → Consumes left rest input
-    → EndsBy how (spelled true size_refusal) text0 text1 → Session start how 0 left rest text0 text1 w w
-Session-too-long start Ended left rest text0 text1 input w keeps long took ends = absurd ends
-Session-too-long start SourceFault left rest text0 text1 input w keeps long took ends = absurd ends
-Session-too-long start Unframeable left rest text0 text1 input w keeps long took ends = (
+pub Session-too-long : (start : State) (how : How) (source rest : SourceView) (sink0 sink1 : SinkView) (input : List ℕ) (w : World)
+    → Keeps w.library start → length input ≡ input_limit + 1 → Consumes source.left rest.left input
+    → EndsBy how (spelled true size_refusal) sink0 sink1 → Session start how 0 source rest sink0 sink1 w w
+Session-too-long start Ended source rest sink0 sink1 input w keeps long took ends = absurd ends
+Session-too-long start SourceFault source rest sink0 sink1 input w keeps long took ends = absurd ends
+Session-too-long start Unframeable source rest sink0 sink1 input w keeps long took ends = (
   input,
   took,
   omega arith,
@@ -53,63 +55,63 @@ Session-too-long start Unframeable left rest text0 text1 input w keeps long took
   ends,
   Answered-too-long start input w keeps (omega arith),
 )
-Session-too-long start SinkFault left rest text0 text1 input w keeps long took ends = (
+Session-too-long start SinkFault source rest sink0 sink1 input w keeps long took ends = (
   input,
   took,
-  inr (BreaksOffAtEnd-refusal start input size_refusal 0 [] rest text0 text0 text1 w w (omega arith)
-      (λ within. absurd (omega arith)) (Answered-too-long start input w keeps (omega arith)) (Appends-none text0) ends),
+  inr (BreaksOffAtEnd-refusal start input size_refusal 0 [] rest sink0 sink0 sink1 w w (omega arith)
+      (λ within. absurd (omega arith)) (Answered-too-long start input w keeps (omega arith)) (Appends-none sink0.written) ends),
 )
-Session-too-long start Memory left rest text0 text1 input w keeps long took ends = (
+Session-too-long start Memory source rest sink0 sink1 input w keeps long took ends = (
   input,
   took,
-  inr (inl (BreaksOffAtEnd-refusal start input size_refusal 0 [] rest text0 text0 text1 w w (omega arith)
-      (λ within. absurd (omega arith)) (Answered-too-long start input w keeps (omega arith)) (Appends-none text0) ends)),
+  inr (inl (BreaksOffAtEnd-refusal start input size_refusal 0 [] rest sink0 sink0 sink1 w w (omega arith)
+      (λ within. absurd (omega arith)) (Answered-too-long start input w keeps (omega arith)) (Appends-none sink0.written) ends)),
 )
 
 -- a refusal that ends a whole input
-Session-refused : (start : State) (how : How) (n : ℕ) (left rest text0 text1 text2 : Option (List ℕ)) (input : List ℕ) (w0 w1 : World)
-    → length input ≤ input_limit → Consumes left rest input → IsAtEnd rest → Stops start input AtRefusal n text0 text1 w0 w1
-    → EndsBy how (spelled true frame_refusal) text1 text2 → Session start how n left rest text0 text2 w0 w1
-Session-refused start Ended n left rest text0 text1 text2 input w0 w1 short took at_end stops ends = absurd ends
-Session-refused start SourceFault n left rest text0 text1 text2 input w0 w1 short took at_end stops ends = absurd ends
-Session-refused start Unframeable n left rest text0 text1 text2 input w0 w1 short took at_end stops ends = (
+Session-refused : (start : State) (how : How) (n : ℕ) (source rest : SourceView) (sink0 sink1 sink2 : SinkView) (input : List ℕ) (w0 w1 : World)
+    → length input ≤ input_limit → Consumes source.left rest.left input → IsAtEnd rest.left → Stops start input AtRefusal n sink0 sink1 w0 w1
+    → EndsBy how (spelled true frame_refusal) sink1 sink2 → Session start how n source rest sink0 sink2 w0 w1
+Session-refused start Ended n source rest sink0 sink1 sink2 input w0 w1 short took at_end stops ends = absurd ends
+Session-refused start SourceFault n source rest sink0 sink1 sink2 input w0 w1 short took at_end stops ends = absurd ends
+Session-refused start Unframeable n source rest sink0 sink1 sink2 input w0 w1 short took at_end stops ends = (
   input,
   took,
   omega arith,
   (λ _. at_end),
   frame_refusal,
   stops.0,
-  Appends-refused text0 text1 text2 stops.0 frame_refusal stops.1 ends,
+  Appends-refused sink0.written sink1.written sink2.written stops.0 frame_refusal stops.1 ends,
   stops.2,
 )
-Session-refused start SinkFault n left rest text0 text1 text2 input w0 w1 short took at_end stops ends =
-    (input, took, inr (BreaksOffAtEnd-refusal start input frame_refusal n stops.0 rest text0 text1 text2 w0 w1 (omega arith) (λ _. at_end) stops.2 stops.1 ends))
-Session-refused start Memory n left rest text0 text1 text2 input w0 w1 short took at_end stops ends =
-    (input, took, inr (inl (BreaksOffAtEnd-refusal start input frame_refusal n stops.0 rest text0 text1 text2 w0 w1 (omega arith) (λ _. at_end) stops.2 stops.1 ends)))
+Session-refused start SinkFault n source rest sink0 sink1 sink2 input w0 w1 short took at_end stops ends =
+    (input, took, inr (BreaksOffAtEnd-refusal start input frame_refusal n stops.0 rest sink0 sink1 sink2 w0 w1 (omega arith) (λ _. at_end) stops.2 stops.1 ends))
+Session-refused start Memory n source rest sink0 sink1 sink2 input w0 w1 short took at_end stops ends =
+    (input, took, inr (inl (BreaksOffAtEnd-refusal start input frame_refusal n stops.0 rest sink0 sink1 sink2 w0 w1 (omega arith) (λ _. at_end) stops.2 stops.1 ends)))
 
 -- an end that writes nothing more
-ends_so : (start : State) (how so : How) (n : ℕ) (left rest text0 text1 text2 : Option (List ℕ)) (w0 w1 : World)
-    → how ≡ so → text2 ≡ text1 → Session start so n left rest text0 text1 w0 w1 → Session start how n left rest text0 text2 w0 w1
-ends_so start how so n left rest text0 text1 text2 w0 w1 is same session =
-    subst (λ (h : How). Session start h n left rest text0 text2 w0 w1) (sym is)
-    (subst (λ (t : Option (List ℕ)). Session start so n left rest text0 t w0 w1) (sym same) session)
+ends_so : (start : State) (how so : How) (n : ℕ) (source rest : SourceView) (sink0 sink1 sink2 : SinkView) (w0 w1 : World)
+    → how ≡ so → sink2 ≡ sink1 → Session start so n source rest sink0 sink1 w0 w1 → Session start how n source rest sink0 sink2 w0 w1
+ends_so start how so n source rest sink0 sink1 sink2 w0 w1 is same session =
+    subst (λ (h : How). Session start h n source rest sink0 sink2 w0 w1) (sym is)
+    (subst (λ (t : SinkView). Session start so n source rest sink0 t w0 w1) (sym same) session)
 
 -- a session whose serving stopped, and that then ended
-pub Session-after : (start : State) (stop : Stop) (end : ReadEnd) (how : How) (n : ℕ) (left rest text0 text1 text2 : Option (List ℕ))
-    (input : List ℕ) (w0 w1 : World) → length input ≤ input_limit → Consumes left rest input → (end ≡ End → IsAtEnd rest) → end ≢ Full
-    → Stops start input stop n text0 text1 w0 w1 → EndsAfter stop end how text1 text2 → Session start how n left rest text0 text2 w0 w1
-Session-after start AtSinkFault end how n left rest text0 text1 text2 input w0 w1 short took at_end whole stops ends =
-    ends_so start how SinkFault n left rest text0 text1 text2 w0 w1 ends.0 ends.1 (input, took, inl stops)
-Session-after start AtMemory end how n left rest text0 text1 text2 input w0 w1 short took at_end whole stops ends =
-    ends_so start how Memory n left rest text0 text1 text2 w0 w1 ends.0 ends.1 (input, took, inl stops)
-Session-after start AtEnd Fault how n left rest text0 text1 text2 input w0 w1 short took at_end whole stops ends =
-    ends_so start how SourceFault n left rest text0 text1 text2 w0 w1 ends.0 ends.1 (input, took, short, ended, stops.0, stops.1, stops.2)
-Session-after start AtEnd End how n left rest text0 text1 text2 input w0 w1 short took at_end whole stops ends =
-    ends_so start how Ended n left rest text0 text1 text2 w0 w1 ends.0 ends.1
-    (input, took, at_end refl, stops.0, Appends-ended text0 text1 stops.0 stops.1, stops.2)
-Session-after start AtEnd Full how n left rest text0 text1 text2 input w0 w1 short took at_end whole stops ends = absurd (whole refl)
-Session-after start AtRefusal Fault how n left rest text0 text1 text2 input w0 w1 short took at_end whole stops ends =
-    ends_so start how SourceFault n left rest text0 text1 text2 w0 w1 ends.0 ends.1 (input, took, short, unframeable frame_refusal, stops.0, stops.1, stops.2)
-Session-after start AtRefusal End how n left rest text0 text1 text2 input w0 w1 short took at_end whole stops ends =
-    Session-refused start how n left rest text0 text1 text2 input w0 w1 short took (at_end refl) stops ends
-Session-after start AtRefusal Full how n left rest text0 text1 text2 input w0 w1 short took at_end whole stops ends = absurd (whole refl)
+pub Session-after : (start : State) (stop : Stop) (end : ReadEnd) (how : How) (n : ℕ) (source rest : SourceView) (sink0 sink1 sink2 : SinkView)
+    (input : List ℕ) (w0 w1 : World) → length input ≤ input_limit → Consumes source.left rest.left input → (end ≡ End → IsAtEnd rest.left) → end ≢ Full
+    → Stops start input stop n sink0 sink1 w0 w1 → EndsAfter stop end how sink1 sink2 → Session start how n source rest sink0 sink2 w0 w1
+Session-after start AtSinkFault end how n source rest sink0 sink1 sink2 input w0 w1 short took at_end whole stops ends =
+    ends_so start how SinkFault n source rest sink0 sink1 sink2 w0 w1 ends.0 ends.1 (input, took, inl stops)
+Session-after start AtMemory end how n source rest sink0 sink1 sink2 input w0 w1 short took at_end whole stops ends =
+    ends_so start how Memory n source rest sink0 sink1 sink2 w0 w1 ends.0 ends.1 (input, took, inl stops)
+Session-after start AtEnd Fault how n source rest sink0 sink1 sink2 input w0 w1 short took at_end whole stops ends =
+    ends_so start how SourceFault n source rest sink0 sink1 sink2 w0 w1 ends.0 ends.1 (input, took, short, ended, stops.0, stops.1, stops.2)
+Session-after start AtEnd End how n source rest sink0 sink1 sink2 input w0 w1 short took at_end whole stops ends =
+    ends_so start how Ended n source rest sink0 sink1 sink2 w0 w1 ends.0 ends.1
+    (input, took, at_end refl, stops.0, Appends-ended sink0.written sink1.written stops.0 stops.1, stops.2)
+Session-after start AtEnd Full how n source rest sink0 sink1 sink2 input w0 w1 short took at_end whole stops ends = absurd (whole refl)
+Session-after start AtRefusal Fault how n source rest sink0 sink1 sink2 input w0 w1 short took at_end whole stops ends =
+    ends_so start how SourceFault n source rest sink0 sink1 sink2 w0 w1 ends.0 ends.1 (input, took, short, unframeable frame_refusal, stops.0, stops.1, stops.2)
+Session-after start AtRefusal End how n source rest sink0 sink1 sink2 input w0 w1 short took at_end whole stops ends =
+    Session-refused start how n source rest sink0 sink1 sink2 input w0 w1 short took (at_end refl) stops ends
+Session-after start AtRefusal Full how n source rest sink0 sink1 sink2 input w0 w1 short took at_end whole stops ends = absurd (whole refl)

@@ -4,7 +4,8 @@ use Rattle.std.specs.List.{AllByRecursion}
 use Rattle.std.specs.Io.KnownBytes.{Appends, IsAtEnd}
 use Rattle.lib_base.specs.declared.outcomes.Outside.{Outside}
 use Rattle.lib_base.specs.declared.outcomes.Outside.TheVariants as outside
-use Rattle.lib_base.specs.Writes.{AppendsPart}
+use Rattle.lib_base.specs.Sources.{SourceView}
+use Rattle.lib_base.specs.Writes.{AppendsPart, SinkView}
 use Rattle.keeper_store.specs.Blobs.{Blobs}
 use Rattle.keeper_store.specs.declared.contents.Tables.{Tables}
 use Rattle.library_model.specs.declared.messages.Reply.{Reply}
@@ -37,20 +38,20 @@ Leads-then s t u w0 w1 w2 first next = record {
       (λ old new. old ≡ tables_of s → new ≡ tables_of t)
       (λ old new. old ≡ tables_of t → new ≡ tables_of u)
       (λ old new. old ≡ tables_of s → new ≡ tables_of u)
-      (λ x y z p q h. q (p h)) w0.tables w1.tables w2.tables first.rows next.rows;
+      (λ x y z p q h. q (p h)) w0.keeper.tables w1.keeper.tables w2.keeper.tables first.rows next.rows;
   files = Goes-then {A = Blobs}
       (λ old new. HoldsFiles old s.recordings → HoldsFiles new t.recordings)
       (λ old new. HoldsFiles old t.recordings → HoldsFiles new u.recordings)
       (λ old new. HoldsFiles old s.recordings → HoldsFiles new u.recordings)
-      (λ x y z p q h. q (p h)) w0.blobs w1.blobs w2.blobs first.files next.files;
+      (λ x y z p q h. q (p h)) w0.vault.blobs w1.vault.blobs w2.vault.blobs first.files next.files;
 }
 
 -- The library that keeps a state stays there.
 pub Leads-same : (s : State) (w : World) → Keeps w.library s → Leads s s w w
 Leads-same s w keeps = record {
   keeps = keeps;
-  rows = Goes-same {A = Tables} (λ old new. old ≡ tables_of s → new ≡ tables_of s) (λ x h. h) w.tables;
-  files = Goes-same {A = Blobs} (λ old new. HoldsFiles old s.recordings → HoldsFiles new s.recordings) (λ x h. h) w.blobs;
+  rows = Goes-same {A = Tables} (λ old new. old ≡ tables_of s → new ≡ tables_of s) (λ x h. h) w.keeper.tables;
+  files = Goes-same {A = Blobs} (λ old new. HoldsFiles old s.recordings → HoldsFiles new s.recordings) (λ x h. h) w.vault.blobs;
 }
 
 -- ---- counts of faults
@@ -59,8 +60,8 @@ Leads-same s w keeps = record {
 pub Counts-then : (replies : List Reply) (reply : Reply) (w0 w1 w2 : World) → Counts replies w0 w1
     → Counts (reply ∷ []) w1 w2 → Counts (replies ++ reply ∷ []) w0 w2
 Counts-then replies reply w0 w1 w2 first next = record {
-  vault = RoseBy-push 502 replies reply w0.vault_faults w1.vault_faults w2.vault_faults first.vault next.vault;
-  keeper = RoseBy-push 504 replies reply w0.keeper_faults w1.keeper_faults w2.keeper_faults first.keeper next.keeper;
+  vault = RoseBy-push 502 replies reply w0.vault.faults w1.vault.faults w2.vault.faults first.vault next.vault;
+  keeper = RoseBy-push 504 replies reply w0.keeper.faults w1.keeper.faults w2.keeper.faults first.keeper next.keeper;
 } where
   RoseBy-push : (status : ℕ) (replies : List Reply) (reply : Reply) (x y z : ℕ) → RoseBy (count_status status replies) x y
       → RoseBy (count_status status (reply ∷ [])) y z → RoseBy (count_status status (replies ++ reply ∷ [])) x z
@@ -72,7 +73,7 @@ Counts-then replies reply w0 w1 w2 first next = record {
 
 -- No reply, and no fault.
 pub Counts-none : (w : World) → Counts [] w w
-Counts-none w = record { vault = RoseBy-none w.vault_faults; keeper = RoseBy-none w.keeper_faults }
+Counts-none w = record { vault = RoseBy-none w.vault.faults; keeper = RoseBy-none w.keeper.faults }
 
 -- ---- requests that were answered
 
@@ -159,21 +160,21 @@ Serves-Answered start input rest end replies w0 w1 short serves ends =
 -- ---- replies that were written
 
 -- No request was answered yet, and nothing was written.
-pub Progress-none : (start : State) (bytes : List ℕ) (text : Option (List ℕ)) (w : World) → Keeps w.library start
-    → Progress start bytes bytes 0 text text w w
-Progress-none start bytes text w keeps = record {
+pub Progress-none : (start : State) (bytes : List ℕ) (sink : SinkView) (w : World) → Keeps w.library start
+    → Progress start bytes bytes 0 sink sink w w
+Progress-none start bytes sink w keeps = record {
   replies = [];
   serves = Serves-none start bytes w keeps;
   counted = refl;
-  written = Appends-none text;
+  written = Appends-none sink.written;
 }
 
 -- Requests were answered, and then the next one, and its reply was written.
-pub Progress-push : (start : State) (bytes rest later : List ℕ) (n : ℕ) (text0 text1 text2 : Option (List ℕ))
-    (request : Asked) (w0 w1 w2 : World) (progress : Progress start bytes rest n text0 text1 w0 w1)
-    → Begins rest request later → Replied progress.serves.state request text1 text2 w1 w2
-    → Progress start bytes later (n + 1) text0 text2 w0 w2
-Progress-push start bytes rest later n text0 text1 text2 request w0 w1 w2 progress begins replied =
+pub Progress-push : (start : State) (bytes rest later : List ℕ) (n : ℕ) (sink0 sink1 sink2 : SinkView)
+    (request : Asked) (w0 w1 w2 : World) (progress : Progress start bytes rest n sink0 sink1 w0 w1)
+    → Begins rest request later → Replied progress.serves.state request sink1 sink2 w1 w2
+    → Progress start bytes later (n + 1) sink0 sink2 w0 w2
+Progress-push start bytes rest later n sink0 sink1 sink2 request w0 w1 w2 progress begins replied =
     let longer : length (progress.replies ++ replied.reply ∷ []) ≡ length progress.replies + length (replied.reply ∷ []) =
     length-append progress.replies (replied.reply ∷ []) in
     let counted : n ≡ length progress.replies = progress.counted in
@@ -182,18 +183,18 @@ Progress-push start bytes rest later n text0 text1 text2 request w0 w1 w2 progre
       serves = Serves-push start bytes rest later progress.replies request w0 w1 w2 progress.serves begins
           replied.reply replied.acts;
       counted = omega (arith, longer, counted);
-      written = subst (Appends text0 text2) (sym (spelled_all-push progress.replies replied.reply))
-          (Appends-then text0 text1 text2 (spelled_all progress.replies) (spelled false replied.reply)
+      written = subst (Appends sink0.written sink2.written) (sym (spelled_all-push progress.replies replied.reply))
+          (Appends-then sink0.written sink1.written sink2.written (spelled_all progress.replies) (spelled false replied.reply)
           progress.written replied.written);
     }
 
 -- ---- where serving stops
 
 -- It stops at the end where nothing is left.
-pub Progress-Stops-end : (start : State) (input rest : List ℕ) (n : ℕ) (text0 text1 : Option (List ℕ)) (w0 w1 : World)
-    → length input ≤ input_limit → Progress start input rest n text0 text1 w0 w1 → rest ≡ []
-    → Stops start input AtEnd n text0 text1 w0 w1
-Progress-Stops-end start input rest n text0 text1 w0 w1 short progress ends = (
+pub Progress-Stops-end : (start : State) (input rest : List ℕ) (n : ℕ) (sink0 sink1 : SinkView) (w0 w1 : World)
+    → length input ≤ input_limit → Progress start input rest n sink0 sink1 w0 w1 → rest ≡ []
+    → Stops start input AtEnd n sink0 sink1 w0 w1
+Progress-Stops-end start input rest n sink0 sink1 w0 w1 short progress ends = (
   progress.replies,
   progress.written,
   subst (λ (k : ℕ). Answered start input ended k progress.replies w0 w1) (sym progress.counted)
@@ -201,10 +202,10 @@ Progress-Stops-end start input rest n text0 text1 w0 w1 short progress ends = (
 )
 
 -- It stops at a refusal where what is left begins no request.
-pub Progress-Stops-refusal : (start : State) (input rest : List ℕ) (n : ℕ) (text0 text1 : Option (List ℕ)) (w0 w1 : World)
-    → length input ≤ input_limit → Progress start input rest n text0 text1 w0 w1 → (rest ≢ []) × BeginNoRequest rest
-    → Stops start input AtRefusal n text0 text1 w0 w1
-Progress-Stops-refusal start input rest n text0 text1 w0 w1 short progress ends = (
+pub Progress-Stops-refusal : (start : State) (input rest : List ℕ) (n : ℕ) (sink0 sink1 : SinkView) (w0 w1 : World)
+    → length input ≤ input_limit → Progress start input rest n sink0 sink1 w0 w1 → (rest ≢ []) × BeginNoRequest rest
+    → Stops start input AtRefusal n sink0 sink1 w0 w1
+Progress-Stops-refusal start input rest n sink0 sink1 w0 w1 short progress ends = (
   progress.replies,
   progress.written,
   subst (λ (k : ℕ). Answered start input (unframeable frame_refusal) k progress.replies w0 w1) (sym progress.counted)
@@ -213,12 +214,12 @@ Progress-Stops-refusal start input rest n text0 text1 w0 w1 short progress ends 
 )
 
 -- It breaks off where the next reply was written in part.
-pub Progress-BreaksOff : (start : State) (bytes rest later : List ℕ) (n : ℕ) (text0 text1 text2 : Option (List ℕ))
+pub Progress-BreaksOff : (start : State) (bytes rest later : List ℕ) (n : ℕ) (sink0 sink1 sink2 : SinkView)
     (request : Asked) (w0 w1 w2 : World) → length bytes ≤ input_limit
-    → (progress : Progress start bytes rest n text0 text1 w0 w1) → Begins rest request later
-    → PartlyReplied progress.serves.state request text1 text2 w1 w2 → BreaksOff start bytes n text0 text2 w0 w2
-Progress-BreaksOff start bytes rest later n text0 text1 text2 request w0 w1 w2 within progress begins partly =
-    let more = Appends-then-part text0 text1 text2 (spelled_all progress.replies) (spelled false partly.reply) progress.written partly.written in
+    → (progress : Progress start bytes rest n sink0 sink1 w0 w1) → Begins rest request later
+    → PartlyReplied progress.serves.state request sink1 sink2 w1 w2 → BreaksOff start bytes n sink0 sink2 w0 w2
+Progress-BreaksOff start bytes rest later n sink0 sink1 sink2 request w0 w1 w2 within progress begins partly =
+    let more = Appends-then-part sink0.written sink1.written sink2.written (spelled_all progress.replies) (spelled false partly.reply) progress.written partly.written in
     record {
       within = within;
       replies = progress.replies;
@@ -237,13 +238,13 @@ Progress-BreaksOff start bytes rest later n text0 text1 text2 request w0 w1 w2 w
 
 -- A turn whose reply was written, or written in part.
 pub Turns-written : (s : State) (bytes : List ℕ) (end : ℕ) (request : Asked) (written : Result (Unit {0}) Outside)
-    (turn : Turn) (text0 text1 : Option (List ℕ)) (w0 w1 : World) → turn ≡ turn_of end written → HasRequest bytes request end → OnOk written (Replied s request text0 text1 w0 w1)
-    → OnErr written (PartlyReplied s request text0 text1 w0 w1) → Turns s bytes turn text0 text1 w0 w1
-Turns-written s bytes end request written turn text0 text1 w0 w1 is has ok err =
-    subst (λ (t : Turn). Turns s bytes t text0 text1 w0 w1) (sym is) (by_case written ok err)
+    (turn : Turn) (sink0 sink1 : SinkView) (w0 w1 : World) → turn ≡ turn_of end written → HasRequest bytes request end → OnOk written (Replied s request sink0 sink1 w0 w1)
+    → OnErr written (PartlyReplied s request sink0 sink1 w0 w1) → Turns s bytes turn sink0 sink1 w0 w1
+Turns-written s bytes end request written turn sink0 sink1 w0 w1 is has ok err =
+    subst (λ (t : Turn). Turns s bytes t sink0 sink1 w0 w1) (sym is) (by_case written ok err)
   where
-    by_case : (written : Result (Unit {0}) Outside) → OnOk written (Replied s request text0 text1 w0 w1)
-        → OnErr written (PartlyReplied s request text0 text1 w0 w1) → Turns s bytes (turn_of end written) text0 text1 w0 w1
+    by_case : (written : Result (Unit {0}) Outside) → OnOk written (Replied s request sink0 sink1 w0 w1)
+        → OnErr written (PartlyReplied s request sink0 sink1 w0 w1) → Turns s bytes (turn_of end written) sink0 sink1 w0 w1
     by_case (Ok done) ok err = (request, has, ok)
     by_case (Err outside.Failed) ok err = (request, drop end bytes, has.begins, err)
     by_case (Err outside.Memory) ok err = (request, drop end bytes, has.begins, err)
@@ -262,29 +263,29 @@ GoesOn-written bytes end request written turn is has = subst (GoesOn bytes) (sym
     by_case (Err outside.Memory) = tt
 
 -- Serving that goes on to the next request.
-pub Progress-turn : (start : State) (input rest : List ℕ) (n end : ℕ) (text0 text1 text2 : Option (List ℕ)) (w0 w1 w2 : World)
-    (progress : Progress start input rest n text0 text1 w0 w1)
-    → Turns progress.serves.state rest (turn.Answered end) text1 text2 w1 w2
-    → Progress start input (drop end rest) (n + 1) text0 text2 w0 w2
-Progress-turn start input rest n end text0 text1 text2 w0 w1 w2 progress turns =
-    Progress-push start input rest (drop end rest) n text0 text1 text2 turns.0 w0 w1 w2 progress turns.1.begins turns.2
+pub Progress-turn : (start : State) (input rest : List ℕ) (n end : ℕ) (sink0 sink1 sink2 : SinkView) (w0 w1 w2 : World)
+    (progress : Progress start input rest n sink0 sink1 w0 w1)
+    → Turns progress.serves.state rest (turn.Answered end) sink1 sink2 w1 w2
+    → Progress start input (drop end rest) (n + 1) sink0 sink2 w0 w2
+Progress-turn start input rest n end sink0 sink1 sink2 w0 w1 w2 progress turns =
+    Progress-push start input rest (drop end rest) n sink0 sink1 sink2 turns.0 w0 w1 w2 progress turns.1.begins turns.2
 
 -- Serving that stops.
-pub Progress-Stops : (start : State) (input rest : List ℕ) (n : ℕ) (stop : Stop) (text0 text1 text2 : Option (List ℕ))
-    (w0 w1 w2 : World) → length input ≤ input_limit → (progress : Progress start input rest n text0 text1 w0 w1)
-    → Turns progress.serves.state rest (Stopped stop) text1 text2 w1 w2 → Stops start input stop n text0 text2 w0 w2
-Progress-Stops start input rest n AtEnd text0 text1 text2 w0 w1 w2 short progress turns =
-    subst (λ (w : World). Stops start input AtEnd n text0 text2 w0 w) (sym turns.2)
-    (subst (λ (t : Option (List ℕ)). Stops start input AtEnd n text0 t w0 w1) (sym turns.1)
-    (Progress-Stops-end start input rest n text0 text1 w0 w1 short progress turns.0))
-Progress-Stops start input rest n AtRefusal text0 text1 text2 w0 w1 w2 short progress turns =
-    subst (λ (w : World). Stops start input AtRefusal n text0 text2 w0 w) (sym turns.3)
-    (subst (λ (t : Option (List ℕ)). Stops start input AtRefusal n text0 t w0 w1) (sym turns.2)
-    (Progress-Stops-refusal start input rest n text0 text1 w0 w1 short progress (turns.0, turns.1)))
-Progress-Stops start input rest n AtSinkFault text0 text1 text2 w0 w1 w2 short progress turns =
-    Progress-BreaksOff start input rest turns.1 n text0 text1 text2 turns.0 w0 w1 w2 short progress turns.2 turns.3
-Progress-Stops start input rest n AtMemory text0 text1 text2 w0 w1 w2 short progress turns =
-    Progress-BreaksOff start input rest turns.1 n text0 text1 text2 turns.0 w0 w1 w2 short progress turns.2 turns.3
+pub Progress-Stops : (start : State) (input rest : List ℕ) (n : ℕ) (stop : Stop) (sink0 sink1 sink2 : SinkView)
+    (w0 w1 w2 : World) → length input ≤ input_limit → (progress : Progress start input rest n sink0 sink1 w0 w1)
+    → Turns progress.serves.state rest (Stopped stop) sink1 sink2 w1 w2 → Stops start input stop n sink0 sink2 w0 w2
+Progress-Stops start input rest n AtEnd sink0 sink1 sink2 w0 w1 w2 short progress turns =
+    subst (λ (w : World). Stops start input AtEnd n sink0 sink2 w0 w) (sym turns.2)
+    (subst (λ (t : SinkView). Stops start input AtEnd n sink0 t w0 w1) (sym turns.1)
+    (Progress-Stops-end start input rest n sink0 sink1 w0 w1 short progress turns.0))
+Progress-Stops start input rest n AtRefusal sink0 sink1 sink2 w0 w1 w2 short progress turns =
+    subst (λ (w : World). Stops start input AtRefusal n sink0 sink2 w0 w) (sym turns.3)
+    (subst (λ (t : SinkView). Stops start input AtRefusal n sink0 t w0 w1) (sym turns.2)
+    (Progress-Stops-refusal start input rest n sink0 sink1 w0 w1 short progress (turns.0, turns.1)))
+Progress-Stops start input rest n AtSinkFault sink0 sink1 sink2 w0 w1 w2 short progress turns =
+    Progress-BreaksOff start input rest turns.1 n sink0 sink1 sink2 turns.0 w0 w1 w2 short progress turns.2 turns.3
+Progress-Stops start input rest n AtMemory sink0 sink1 sink2 w0 w1 w2 short progress turns =
+    Progress-BreaksOff start input rest turns.1 n sink0 sink1 sink2 turns.0 w0 w1 w2 short progress turns.2 turns.3
 
 -- ---- the end of a session
 
@@ -308,12 +309,12 @@ Answered-too-long start input w keeps long =
 
 -- A session breaks off where all requests were answered, and the refusal that ends it was written in part.
 pub BreaksOffAtEnd-refusal : (start : State) (input : List ℕ) (reply : Reply) (n : ℕ) (replies : List Reply)
-    (left text0 text1 text2 : Option (List ℕ)) (w0 w1 : World) → length input ≤ input_limit + 1 → (length input ≤ input_limit → IsAtEnd left)
+    (source : SourceView) (sink0 sink1 sink2 : SinkView) (w0 w1 : World) → length input ≤ input_limit + 1 → (length input ≤ input_limit → IsAtEnd source.left)
     → Answered start input (unframeable reply) n replies w0 w1
-    → Appends text0 text1 (spelled_all replies) → AppendsPart text1 text2 (spelled true reply)
-    → BreaksOffAtEnd start input n left text0 text2 w0 w1
-BreaksOffAtEnd-refusal start input reply n replies left text0 text1 text2 w0 w1 within whole answered written partly =
-    let more = Appends-then-part text0 text1 text2 (spelled_all replies) (spelled true reply) written partly in
+    → Appends sink0.written sink1.written (spelled_all replies) → AppendsPart sink1.written sink2.written (spelled true reply)
+    → BreaksOffAtEnd start input n source sink0 sink2 w0 w1
+BreaksOffAtEnd-refusal start input reply n replies source sink0 sink1 sink2 w0 w1 within whole answered written partly =
+    let more = Appends-then-part sink0.written sink1.written sink2.written (spelled_all replies) (spelled true reply) written partly in
     record {
       within = within;
       whole = whole;

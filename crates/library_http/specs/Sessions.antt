@@ -2,7 +2,7 @@
 use Rattle.std.specs.Prelude.{◌≡◌, ◌≢◌, ◌≤◌, ◌+◌, ◌⊎◌, ℕ, true, false, List, [], ◌∷◌, ◌++◌, length, Option, Some, None, Result, Ok, Err, ⊤}
 use Rattle.std.specs.List.{AllByRecursion}
 use Rattle.std.specs.Io.KnownBytes.{Appends, Consumes, IsAtEnd}
-use Rattle.lib_base.specs.Faults.{Rose}
+use Rattle.lib_base.specs.Faults.{Rose, CountsFault}
 use Rattle.keeper_store.specs.Blobs.{OthersKept}
 use Rattle.keeper_store.specs.Goes.{Goes}
 use Rattle.library_model.specs.declared.messages.Reply.{Reply}
@@ -17,7 +17,8 @@ use Rattle.lib_base.specs.declared.outcomes.Outside.{Outside}
 use Rattle.lib_base.specs.declared.outcomes.Outside.TheVariants as outside
 use Rattle.lib_base.specs.declared.sources.ReadEnd.{ReadEnd}
 use Rattle.lib_base.specs.declared.sources.ReadEnd.TheVariants as read
-use Rattle.lib_base.specs.Writes.{AppendsPart}
+use Rattle.lib_base.specs.Sources.{SourceView}
+use Rattle.lib_base.specs.Writes.{AppendsPart, SinkView}
 use Rattle.library_http.specs.declared.serving.How.{How}
 use Rattle.library_http.specs.declared.serving.How.TheVariants.{Ended, Unframeable, SourceFault, SinkFault, Memory}
 use Rattle.library_http.specs.declared.serving.Stop.{Stop}
@@ -26,19 +27,19 @@ use Rattle.library_http.specs.declared.serving.Turn.{Turn}
 use Rattle.library_http.specs.declared.serving.Turn.TheVariants.{Stopped}
 use Rattle.library_http.specs.declared.serving.Turn.TheVariants as turn
 use Rattle.library_http.specs.Framed.{HasRequest}
-use Rattle.library_http.specs.World.{World, RoseBy}
+use Rattle.library_http.specs.World.{World, KeepsFaults, RoseBy}
 
 -- The library goes from one state to another: it keeps the second, and where the tables and the files were those of the
 -- first, they are those of the second.
 pub record Leads (s next : State) (before now : World) : Type 0 where
   pub keeps : Keeps now.library next
-  pub rows : Goes (λ old new. old ≡ tables_of s → new ≡ tables_of next) before.tables now.tables
-  pub files : Goes (λ old new. HoldsFiles old s.recordings → HoldsFiles new next.recordings) before.blobs now.blobs
+  pub rows : Goes (λ old new. old ≡ tables_of s → new ≡ tables_of next) before.keeper.tables now.keeper.tables
+  pub files : Goes (λ old new. HoldsFiles old s.recordings → HoldsFiles new next.recordings) before.vault.blobs now.vault.blobs
 
 -- Each reply 502 is one by which the vault's count of faults rose, and each 504 one by which the keeper's did.
 pub record Counts (replies : List Reply) (before now : World) : Type 0 where
-  pub vault : RoseBy (count_status 502 replies) before.vault_faults now.vault_faults
-  pub keeper : RoseBy (count_status 504 replies) before.keeper_faults now.keeper_faults
+  pub vault : RoseBy (count_status 502 replies) before.vault.faults now.vault.faults
+  pub keeper : RoseBy (count_status 504 replies) before.keeper.faults now.keeper.faults
 
 -- a request was answered as it is decided, or memory was wanting
 abbrev pub IsSettled : State → Asked → Reply → State → Type 0
@@ -53,9 +54,9 @@ pub record Acts (s : State) (request : Asked) (reply : Reply) (before now : Worl
   pub answers : Answer s request reply next
   pub leads : Leads s next before now
   pub counts : Counts (reply ∷ []) before now
-  pub calls : IsQuestion request → now.vault_calls ≡ before.vault_calls
-  pub keys : Goes (OthersKept s.next_take) before.blobs now.blobs
-  pub complete : ¬ Rose before.vault_faults now.vault_faults → ¬ Rose before.keeper_faults now.keeper_faults
+  pub calls : IsQuestion request → now.vault.calls ≡ before.vault.calls
+  pub keys : Goes (OthersKept s.next_take) before.vault.blobs now.vault.blobs
+  pub complete : ¬ Rose before.vault.faults now.vault.faults → ¬ Rose before.keeper.faults now.keeper.faults
       → IsSettled s request reply next
 
 -- The requests were answered in order, each from the state and the world that the one before it left.
@@ -75,7 +76,7 @@ pub record Serves (start : State) (bytes rest : List ℕ) (replies : List Reply)
   pub answers : Answers start requests replies state
   pub leads : Leads start state before now
   pub counts : Counts replies before now
-  pub calls : AllByRecursion IsQuestion requests → now.vault_calls ≡ before.vault_calls
+  pub calls : AllByRecursion IsQuestion requests → now.vault.calls ≡ before.vault.calls
   pub turns : ActInTurn start requests replies state before now
 
 -- the reply, or that to want of memory
@@ -84,23 +85,23 @@ reply_given (Some reply) = reply
 reply_given None = memory_refusal
 
 -- a request was answered, and its reply was written
-pub record Replied (s : State) (request : Asked) (text_before text_now : Option (List ℕ)) (before now : World) : Type 0 where
+pub record Replied (s : State) (request : Asked) (sink_before sink_now : SinkView) (before now : World) : Type 0 where
   pub reply : Reply
   pub acts : Acts s request reply before now
-  pub written : Appends text_before text_now (spelled false reply)
+  pub written : Appends sink_before.written sink_now.written (spelled false reply)
 
 -- a request was answered, and a part of its reply was written
-pub record PartlyReplied (s : State) (request : Asked) (text_before text_now : Option (List ℕ)) (before now : World) : Type 0 where
+pub record PartlyReplied (s : State) (request : Asked) (sink_before sink_now : SinkView) (before now : World) : Type 0 where
   pub reply : Reply
   pub acts : Acts s request reply before now
-  pub written : AppendsPart text_before text_now (spelled false reply)
+  pub written : AppendsPart sink_before.written sink_now.written (spelled false reply)
 
 -- the requests at the front of the bytes were answered, and their replies, as many as `answered`, were written
-pub record Progress (start : State) (bytes rest : List ℕ) (answered : ℕ) (text_before text_now : Option (List ℕ)) (before now : World) : Type 0 where
+pub record Progress (start : State) (bytes rest : List ℕ) (answered : ℕ) (sink_before sink_now : SinkView) (before now : World) : Type 0 where
   pub replies : List Reply
   pub serves : Serves start bytes rest replies before now
   pub counted : answered ≡ length replies
-  pub written : Appends text_before text_now (spelled_all replies)
+  pub written : Appends sink_before.written sink_now.written (spelled_all replies)
 
 -- All the requests of an input were answered, as many as `answered`, and it ends so. No other requests are those of the
 -- input. Where all were questions, the vault was not called.
@@ -113,12 +114,12 @@ pub record Answered (start : State) (input : List ℕ) (end : End) (answered : �
   pub counted : answered ≡ length requests
   pub leads : Leads start state before now
   pub counts : Counts replies before now
-  pub calls : AllByRecursion IsQuestion requests → now.vault_calls ≡ before.vault_calls
+  pub calls : AllByRecursion IsQuestion requests → now.vault.calls ≡ before.vault.calls
   pub turns : ActInTurn start requests replies state before now
 
 -- A session broke off in a reply: as many requests as `answered` were answered whole, and the next one acted, of whose reply
 -- a part was written.
-pub record BreaksOff (start : State) (input : List ℕ) (answered : ℕ) (text_before text_now : Option (List ℕ)) (before now : World) : Type 0 where
+pub record BreaksOff (start : State) (input : List ℕ) (answered : ℕ) (sink_before sink_now : SinkView) (before now : World) : Type 0 where
   pub within : length input ≤ input_limit
   pub replies : List Reply
   pub reply : Reply
@@ -128,14 +129,14 @@ pub record BreaksOff (start : State) (input : List ℕ) (answered : ℕ) (text_b
   pub unwritten : List ℕ
   pub cut : spelled false reply ≡ part ++ unwritten
   pub left_over : unwritten ≢ []
-  pub written : Appends text_before text_now (spelled_all replies ++ part)
+  pub written : Appends sink_before.written sink_now.written (spelled_all replies ++ part)
   pub counted : answered ≡ length replies
 
 -- A session broke off in the refusal that ends its input, which was read whole: all its requests were answered, and a part
 -- of the refusal was written.
-pub record BreaksOffAtEnd (start : State) (input : List ℕ) (answered : ℕ) (left_now text_before text_now : Option (List ℕ)) (before now : World) : Type 0 where
+pub record BreaksOffAtEnd (start : State) (input : List ℕ) (answered : ℕ) (source_now : SourceView) (sink_before sink_now : SinkView) (before now : World) : Type 0 where
   pub within : length input ≤ input_limit + 1
-  pub whole : length input ≤ input_limit → IsAtEnd left_now
+  pub whole : length input ≤ input_limit → IsAtEnd source_now.left
   pub replies : List Reply
   pub reply : Reply
   pub answers : Answered start input (unframeable reply) answered replies before now
@@ -143,16 +144,16 @@ pub record BreaksOffAtEnd (start : State) (input : List ℕ) (answered : ℕ) (l
   pub unwritten : List ℕ
   pub cut : spelled true reply ≡ part ++ unwritten
   pub left_over : unwritten ≢ []
-  pub written : Appends text_before text_now (spelled_all replies ++ part)
+  pub written : Appends sink_before.written sink_now.written (spelled_all replies ++ part)
 
 -- A session found no memory to read into, and did nothing.
-pub record Unread (start : State) (input : List ℕ) (answered : ℕ) (text_before text_now : Option (List ℕ)) (before now : World) : Type 0 where
+pub record Unread (start : State) (input : List ℕ) (answered : ℕ) (sink_before sink_now : SinkView) (before now : World) : Type 0 where
   pub nothing : input ≡ []
   pub none : answered ≡ 0
-  pub written : Appends text_before text_now []
+  pub written : Appends sink_before.written sink_now.written []
   pub leads : Leads start start before now
   pub counts : Counts [] before now
-  pub calls : now.vault_calls ≡ before.vault_calls
+  pub calls : now.vault.calls ≡ before.vault.calls
 
 -- what a turn of serving is whose reply was written, or written in part, where what follows `end` bytes is left then
 abbrev pub turn_of : ℕ → Result (Unit {0}) Outside → Turn
@@ -166,69 +167,77 @@ GoesOn bytes (turn.Answered end) = (1 ≤ end) × (end ≤ length bytes)
 GoesOn bytes (Stopped stop) = ⊤
 
 -- What a turn of serving does from a state, over the bytes that are left.
-abbrev pub Turns : State → List ℕ → Turn → Option (List ℕ) → Option (List ℕ) → World → World → Type 0
-Turns s bytes (turn.Answered end) text_before text_now before now =
-    (request : Asked) × HasRequest bytes request end × Replied s request text_before text_now before now
-Turns s bytes (Stopped AtEnd) text_before text_now before now =
-    (bytes ≡ []) × (text_now ≡ text_before) × (now ≡ before)
-Turns s bytes (Stopped AtRefusal) text_before text_now before now =
-    (bytes ≢ []) × BeginNoRequest bytes × (text_now ≡ text_before) × (now ≡ before)
-Turns s bytes (Stopped AtSinkFault) text_before text_now before now =
-    (request : Asked) × (rest : List ℕ) × Begins bytes request rest × PartlyReplied s request text_before text_now before now
-Turns s bytes (Stopped AtMemory) text_before text_now before now =
-    (request : Asked) × (rest : List ℕ) × Begins bytes request rest × PartlyReplied s request text_before text_now before now
+abbrev pub Turns : State → List ℕ → Turn → SinkView → SinkView → World → World → Type 0
+Turns s bytes (turn.Answered end) sink_before sink_now before now =
+    (request : Asked) × HasRequest bytes request end × Replied s request sink_before sink_now before now
+Turns s bytes (Stopped AtEnd) sink_before sink_now before now =
+    (bytes ≡ []) × (sink_now ≡ sink_before) × (now ≡ before)
+Turns s bytes (Stopped AtRefusal) sink_before sink_now before now =
+    (bytes ≢ []) × BeginNoRequest bytes × (sink_now ≡ sink_before) × (now ≡ before)
+Turns s bytes (Stopped AtSinkFault) sink_before sink_now before now =
+    (request : Asked) × (rest : List ℕ) × Begins bytes request rest × PartlyReplied s request sink_before sink_now before now
+Turns s bytes (Stopped AtMemory) sink_before sink_now before now =
+    (request : Asked) × (rest : List ℕ) × Begins bytes request rest × PartlyReplied s request sink_before sink_now before now
 
 -- What serving the requests of an input does that stops so.
-abbrev pub Stops : State → List ℕ → Stop → ℕ → Option (List ℕ) → Option (List ℕ) → World → World → Type 0
-Stops start input AtEnd answered text_before text_now before now =
-    (replies : List Reply) × Appends text_before text_now (spelled_all replies) × Answered start input ended answered replies before now
-Stops start input AtRefusal answered text_before text_now before now =
-    (replies : List Reply) × Appends text_before text_now (spelled_all replies)
+abbrev pub Stops : State → List ℕ → Stop → ℕ → SinkView → SinkView → World → World → Type 0
+Stops start input AtEnd answered sink_before sink_now before now =
+    (replies : List Reply) × Appends sink_before.written sink_now.written (spelled_all replies) × Answered start input ended answered replies before now
+Stops start input AtRefusal answered sink_before sink_now before now =
+    (replies : List Reply) × Appends sink_before.written sink_now.written (spelled_all replies)
     × Answered start input (unframeable frame_refusal) answered replies before now
-Stops start input AtSinkFault answered text_before text_now before now = BreaksOff start input answered text_before text_now before now
-Stops start input AtMemory answered text_before text_now before now = BreaksOff start input answered text_before text_now before now
+Stops start input AtSinkFault answered sink_before sink_now before now = BreaksOff start input answered sink_before sink_now before now
+Stops start input AtMemory answered sink_before sink_now before now = BreaksOff start input answered sink_before sink_now before now
 
 -- what writing the refusal that ends a session does, which ends so
-abbrev pub EndsBy : How → List ℕ → Option (List ℕ) → Option (List ℕ) → Type 0
-EndsBy Unframeable refusal text_before text_now = Appends text_before text_now refusal
-EndsBy SinkFault refusal text_before text_now = AppendsPart text_before text_now refusal
-EndsBy Memory refusal text_before text_now = AppendsPart text_before text_now refusal
-EndsBy Ended refusal text_before text_now = ⊥
-EndsBy SourceFault refusal text_before text_now = ⊥
+abbrev pub EndsBy : How → List ℕ → SinkView → SinkView → Type 0
+EndsBy Unframeable refusal sink_before sink_now = Appends sink_before.written sink_now.written refusal
+EndsBy SinkFault refusal sink_before sink_now = AppendsPart sink_before.written sink_now.written refusal
+EndsBy Memory refusal sink_before sink_now = AppendsPart sink_before.written sink_now.written refusal
+EndsBy Ended refusal sink_before sink_now = ⊥
+EndsBy SourceFault refusal sink_before sink_now = ⊥
 
 -- what ending a session does, whose serving stopped so over an input that was read so (an input that is too long is not
 -- served, so `Full` never comes here)
-abbrev pub EndsAfter : Stop → ReadEnd → How → Option (List ℕ) → Option (List ℕ) → Type 0
-EndsAfter AtSinkFault end how text_before text_now = (how ≡ SinkFault) × (text_now ≡ text_before)
-EndsAfter AtMemory end how text_before text_now = (how ≡ Memory) × (text_now ≡ text_before)
-EndsAfter AtEnd read.Fault how text_before text_now = (how ≡ SourceFault) × (text_now ≡ text_before)
-EndsAfter AtEnd read.End how text_before text_now = (how ≡ Ended) × (text_now ≡ text_before)
-EndsAfter AtEnd read.Full how text_before text_now = (how ≡ Ended) × (text_now ≡ text_before)
-EndsAfter AtRefusal read.Fault how text_before text_now = (how ≡ SourceFault) × (text_now ≡ text_before)
-EndsAfter AtRefusal read.End how text_before text_now = EndsBy how (spelled true frame_refusal) text_before text_now
-EndsAfter AtRefusal read.Full how text_before text_now = EndsBy how (spelled true frame_refusal) text_before text_now
+abbrev pub EndsAfter : Stop → ReadEnd → How → SinkView → SinkView → Type 0
+EndsAfter AtSinkFault end how sink_before sink_now = (how ≡ SinkFault) × (sink_now ≡ sink_before)
+EndsAfter AtMemory end how sink_before sink_now = (how ≡ Memory) × (sink_now ≡ sink_before)
+EndsAfter AtEnd read.Fault how sink_before sink_now = (how ≡ SourceFault) × (sink_now ≡ sink_before)
+EndsAfter AtEnd read.End how sink_before sink_now = (how ≡ Ended) × (sink_now ≡ sink_before)
+EndsAfter AtEnd read.Full how sink_before sink_now = (how ≡ Ended) × (sink_now ≡ sink_before)
+EndsAfter AtRefusal read.Fault how sink_before sink_now = (how ≡ SourceFault) × (sink_now ≡ sink_before)
+EndsAfter AtRefusal read.End how sink_before sink_now = EndsBy how (spelled true frame_refusal) sink_before sink_now
+EndsAfter AtRefusal read.Full how sink_before sink_now = EndsBy how (spelled true frame_refusal) sink_before sink_now
 
--- What a session does that ends so, by what was left of its source and written to its sink before and now.
-abbrev pub Session : State → How → ℕ → Option (List ℕ) → Option (List ℕ) → Option (List ℕ) → Option (List ℕ) → World → World → Type 0
-Session start Ended answered left_before left_now text_before text_now before now =
-    (input : List ℕ) × Consumes left_before left_now input × IsAtEnd left_now
-    × (replies : List Reply) × Appends text_before text_now (output replies ended)
+-- What a session does that ends so, by what its source and its sink told before and now.
+abbrev pub Session : State → How → ℕ → SourceView → SourceView → SinkView → SinkView → World → World → Type 0
+Session start Ended answered source_before source_now sink_before sink_now before now =
+    (input : List ℕ) × Consumes source_before.left source_now.left input × IsAtEnd source_now.left
+    × (replies : List Reply) × Appends sink_before.written sink_now.written (output replies ended)
     × Answered start input ended answered replies before now
-Session start Unframeable answered left_before left_now text_before text_now before now =
-    (input : List ℕ) × Consumes left_before left_now input
-    × (length input ≤ input_limit + 1) × (length input ≤ input_limit → IsAtEnd left_now)
-    × (reply : Reply) × (replies : List Reply) × Appends text_before text_now (output replies (unframeable reply))
+Session start Unframeable answered source_before source_now sink_before sink_now before now =
+    (input : List ℕ) × Consumes source_before.left source_now.left input
+    × (length input ≤ input_limit + 1) × (length input ≤ input_limit → IsAtEnd source_now.left)
+    × (reply : Reply) × (replies : List Reply) × Appends sink_before.written sink_now.written (output replies (unframeable reply))
     × Answered start input (unframeable reply) answered replies before now
-Session start SourceFault answered left_before left_now text_before text_now before now =
-    (input : List ℕ) × Consumes left_before left_now input × (length input ≤ input_limit)
-    × (end : End) × (replies : List Reply) × Appends text_before text_now (spelled_all replies)
+Session start SourceFault answered source_before source_now sink_before sink_now before now =
+    (input : List ℕ) × Consumes source_before.left source_now.left input × (length input ≤ input_limit)
+    × (end : End) × (replies : List Reply) × Appends sink_before.written sink_now.written (spelled_all replies)
     × Answered start input end answered replies before now
-Session start SinkFault answered left_before left_now text_before text_now before now =
-    (input : List ℕ) × Consumes left_before left_now input
-    × (BreaksOff start input answered text_before text_now before now
-    ⊎ BreaksOffAtEnd start input answered left_now text_before text_now before now)
-Session start Memory answered left_before left_now text_before text_now before now =
-    (input : List ℕ) × Consumes left_before left_now input
-    × (BreaksOff start input answered text_before text_now before now
-    ⊎ (BreaksOffAtEnd start input answered left_now text_before text_now before now
-    ⊎ Unread start input answered text_before text_now before now))
+Session start SinkFault answered source_before source_now sink_before sink_now before now =
+    (input : List ℕ) × Consumes source_before.left source_now.left input
+    × (BreaksOff start input answered sink_before sink_now before now
+    ⊎ BreaksOffAtEnd start input answered source_now sink_before sink_now before now)
+Session start Memory answered source_before source_now sink_before sink_now before now =
+    (input : List ℕ) × Consumes source_before.left source_now.left input
+    × (BreaksOff start input answered sink_before sink_now before now
+    ⊎ (BreaksOffAtEnd start input answered source_now sink_before sink_now before now
+    ⊎ Unread start input answered sink_before sink_now before now))
+
+-- What a session does to the counts of faults, which ends so: none falls, that of the source rose where it ended by the
+-- source's fault, and that of the sink where it ended by the sink's.
+pub record CountsFaults (how : How) (source_before source_now : SourceView) (sink_before sink_now : SinkView) (before now : World)
+    : Type 0 where
+  pub of_source : CountsFault (how ≡ SourceFault) source_before.faults source_now.faults
+  pub of_sink : CountsFault (how ≡ SinkFault) sink_before.faults sink_now.faults
+  pub others : KeepsFaults before now

@@ -1,14 +1,12 @@
 //! One request, its reply, and the writing of it.
-ghost use Rattle.std.specs.Prelude.{◌≡◌, ◌≤◌, false, IsErrOf, OnOk, OnErr};
-ghost use Rattle.std.specs.Io.KnownBytes.{Appends};
-ghost use Rattle.lib_base.specs.Faults.{Rose};
-ghost use Rattle.lib_base.specs.Writes.{AppendsPart};
+ghost use Rattle.std.specs.Prelude.{◌≡◌, false};
+ghost use Rattle.lib_base.specs.Writes.{WritesAll};
 ghost use Rattle.library_model.specs.Asked.{change};
 ghost use Rattle.library_model.specs.Replies.{spelled};
 ghost use Rattle.library_model.specs.State.{State};
 ghost use Rattle.catalogue_core.specs.Kept.{Keeps};
 ghost use Rattle.library_http.specs.Sessions.{Acts, reply_given};
-ghost use Rattle.library_http.specs.World.{world};
+ghost use Rattle.library_http.specs.World.{KeepsFaults, world};
 
 use crate::spelling::{memory_reply, spell};
 use catalogue_core::{Library, Staged, commit, stage};
@@ -26,10 +24,10 @@ pub fn answer<D: Keeper, V: Vault>(
     vault: &mut V,
 ) -> Option<Reply>
     ensures acts { (s : State) → Keeps library.old s → Acts s (change request) (reply_given result)
-        (world library.old (D.tables keeper.old) (V.blobs vault.old) (D.faults keeper.old) (V.faults vault.old) (V.calls vault.old))
-        (world library.new (D.tables keeper.new) (V.blobs vault.new) (D.faults keeper.new) (V.faults vault.new) (V.calls vault.new)) }
-    ensures keeper_later { D.faults keeper.old ≤ D.faults keeper.new }
-    ensures vault_later { V.faults vault.old ≤ V.faults vault.new }
+        (world library.old (D.shown keeper.old) (V.shown vault.old))
+        (world library.new (D.shown keeper.new) (V.shown vault.new)) }
+    ensures later { KeepsFaults (world library.old (D.shown keeper.old) (V.shown vault.old))
+        (world library.new (D.shown keeper.new) (V.shown vault.new)) }
 {
     match stage(library, request, vault) {
         Ok(Staged::Refused(reply)) => Some(reply),
@@ -47,10 +45,10 @@ pub fn answer_import<D: Keeper, V: Vault>(
     vault: &mut V,
 ) -> Option<Reply>
     ensures acts { (s : State) → Keeps library.old s → Acts s (change (record { command = Command.Import file.now })) (reply_given result)
-        (world library.old (D.tables keeper.old) (V.blobs vault.old) (D.faults keeper.old) (V.faults vault.old) (V.calls vault.old))
-        (world library.new (D.tables keeper.new) (V.blobs vault.new) (D.faults keeper.new) (V.faults vault.new) (V.calls vault.new)) }
-    ensures keeper_later { D.faults keeper.old ≤ D.faults keeper.new }
-    ensures vault_later { V.faults vault.old ≤ V.faults vault.new }
+        (world library.old (D.shown keeper.old) (V.shown vault.old))
+        (world library.new (D.shown keeper.new) (V.shown vault.new)) }
+    ensures later { KeepsFaults (world library.old (D.shown keeper.old) (V.shown vault.old))
+        (world library.new (D.shown keeper.new) (V.shown vault.new)) }
 {
     match Bytes::copy(alloc, file) {
         Ok(bytes) => {
@@ -67,10 +65,7 @@ pub fn write_given<K: Sink>(
     given: &Option<Reply>,
     sink: &mut K,
 ) -> Result<(), Outside>
-    ensures ok { OnOk result (Appends (K.written sink.old) (K.written sink.new) (spelled false (reply_given given.now))) }
-    ensures err { OnErr result (AppendsPart (K.written sink.old) (K.written sink.new) (spelled false (reply_given given.now))) }
-    ensures later { K.faults sink.old ≤ K.faults sink.new }
-    ensures cause { IsErrOf result Outside.Failed → Rose (K.faults sink.old) (K.faults sink.new) }
+    ensures { WritesAll (K.shown sink.old) (K.shown sink.new) (spelled false (reply_given given.now)) result }
 {
     match given {
         Some(reply) => write_reply(alloc, reply, sink),
@@ -80,10 +75,7 @@ pub fn write_given<K: Sink>(
 
 /// Writes a reply. A refusal leaves a part of its bytes written, from the front.
 pub fn write_reply<K: Sink>(alloc: Global, reply: &Reply, sink: &mut K) -> Result<(), Outside>
-    ensures ok { OnOk result (Appends (K.written sink.old) (K.written sink.new) (spelled false reply.now)) }
-    ensures err { OnErr result (AppendsPart (K.written sink.old) (K.written sink.new) (spelled false reply.now)) }
-    ensures later { K.faults sink.old ≤ K.faults sink.new }
-    ensures cause { IsErrOf result Outside.Failed → Rose (K.faults sink.old) (K.faults sink.new) }
+    ensures { WritesAll (K.shown sink.old) (K.shown sink.new) (spelled false reply.now) result }
 {
     let text = spell(alloc, reply, false)?;
     write_all(sink, text.as_slice())

@@ -1,14 +1,14 @@
 //! A session: an input read, its requests answered, and its end.
-ghost use Rattle.std.specs.Prelude.{◌≡◌, ◌≤◌, length, IsErrOf, OnOk, OnErr, ◌⊎◌};
-ghost use Rattle.lib_base.specs.Faults.{Rose};
+ghost use Rattle.std.specs.Prelude.{◌≡◌, ◌≤◌, ◌⊎◌, length, IsErrOf, OnOk, OnErr};
+ghost use Rattle.lib_base.specs.Faults.{Rose, CountsFault};
 ghost use Rattle.library_model.specs.Asked as asked;
 ghost use Rattle.library_model.specs.Asked.{change};
 ghost use Rattle.library_model.specs.Framing.{input_limit};
 ghost use Rattle.library_model.specs.State.{State};
 ghost use Rattle.catalogue_core.specs.Kept.{Keeps};
 ghost use Rattle.library_http.specs.Sessions as sessions;
-ghost use Rattle.library_http.specs.Sessions.{Replied, PartlyReplied, GoesOn, Turns, Stops, EndsAfter, EndsBy, Session};
-ghost use Rattle.library_http.specs.World.{World, world};
+ghost use Rattle.library_http.specs.Sessions.{Replied, PartlyReplied, GoesOn, Turns, Stops, EndsAfter, EndsBy, Session, CountsFaults};
+ghost use Rattle.library_http.specs.World.{World, KeepsFaults, world};
 
 use crate::answering::{answer_import, write_given};
 use crate::framing::{Framed, frame};
@@ -84,15 +84,12 @@ pub fn session<S: Source, K: Sink, D: Keeper, V: Vault>(
     sink: &mut K,
 ) -> SessionEnd
     ensures session { (start : State) → Keeps library.old start → Session start result.how result.answered
-        (S.left source.old) (S.left source.new) (K.written sink.old) (K.written sink.new)
-        (world library.old (D.tables keeper.old) (V.blobs vault.old) (D.faults keeper.old) (V.faults vault.old) (V.calls vault.old))
-        (world library.new (D.tables keeper.new) (V.blobs vault.new) (D.faults keeper.new) (V.faults vault.new) (V.calls vault.new)) }
-    ensures source_cause { result.how ≡ How.SourceFault → Rose (S.faults source.old) (S.faults source.new) }
-    ensures sink_cause { result.how ≡ How.SinkFault → Rose (K.faults sink.old) (K.faults sink.new) }
-    ensures source_later { S.faults source.old ≤ S.faults source.new }
-    ensures sink_later { K.faults sink.old ≤ K.faults sink.new }
-    ensures keeper_later { D.faults keeper.old ≤ D.faults keeper.new }
-    ensures vault_later { V.faults vault.old ≤ V.faults vault.new }
+        (S.shown source.old) (S.shown source.new) (K.shown sink.old) (K.shown sink.new)
+        (world library.old (D.shown keeper.old) (V.shown vault.old))
+        (world library.new (D.shown keeper.new) (V.shown vault.new)) }
+    ensures faults { CountsFaults result.how (S.shown source.old) (S.shown source.new) (K.shown sink.old) (K.shown sink.new)
+        (world library.old (D.shown keeper.old) (V.shown vault.old))
+        (world library.new (D.shown keeper.new) (V.shown vault.new)) }
 {
     let Ok(taken) = read_up_to(alloc, source, INPUT_LIMIT + 1) else {
         return SessionEnd {
@@ -116,9 +113,10 @@ pub fn session<S: Source, K: Sink, D: Keeper, V: Vault>(
 /// Ends a session whose serving stopped so, over an input that was read so. Where what no request
 /// begins is left of a whole input, it is refused.
 fn end_after<K: Sink>(stop: Stop, end: ReadEnd, sink: &mut K) -> How
-    ensures ends { EndsAfter stop end result (K.written sink.old) (K.written sink.new) }
-    ensures later { K.faults sink.old ≤ K.faults sink.new }
-    ensures sink_cause { result ≡ How.SinkFault → (stop ≡ Stop.AtSinkFault) ⊎ Rose (K.faults sink.old) (K.faults sink.new) }
+    ensures ends { EndsAfter stop end result (K.shown sink.old) (K.shown sink.new) }
+    ensures later { (K.shown sink.old).faults ≤ (K.shown sink.new).faults }
+    ensures sink_cause { result ≡ How.SinkFault
+        → (stop ≡ Stop.AtSinkFault) ⊎ Rose (K.shown sink.old).faults (K.shown sink.new).faults }
     ensures source_cause { result ≡ How.SourceFault → end ≡ ReadEnd.Fault }
 {
     match (stop, end) {
@@ -132,9 +130,8 @@ fn end_after<K: Sink>(stop: Stop, end: ReadEnd, sink: &mut K) -> How
 
 /// Ends a session by its last refusal.
 fn end_by<K: Sink>(refusal: &[u8], sink: &mut K) -> How
-    ensures ends { EndsBy result refusal.now (K.written sink.old) (K.written sink.new) }
-    ensures later { K.faults sink.old ≤ K.faults sink.new }
-    ensures cause { result ≡ How.SinkFault → Rose (K.faults sink.old) (K.faults sink.new) }
+    ensures ends { EndsBy result refusal.now (K.shown sink.old) (K.shown sink.new) }
+    ensures faults { CountsFault (result ≡ How.SinkFault) (K.shown sink.old).faults (K.shown sink.new).faults }
 {
     match write_all(sink, refusal) {
         Ok(()) => How::Unframeable,
@@ -154,13 +151,12 @@ fn serve<K: Sink, D: Keeper, V: Vault>(
 ) -> Served
     requires { length input.now ≤ input_limit }
     ensures stops { (start : State) → Keeps library.old start → Stops start input.now result.stop result.answered
-        (K.written sink.old) (K.written sink.new)
-        (world library.old (D.tables keeper.old) (V.blobs vault.old) (D.faults keeper.old) (V.faults vault.old) (V.calls vault.old))
-        (world library.new (D.tables keeper.new) (V.blobs vault.new) (D.faults keeper.new) (V.faults vault.new) (V.calls vault.new)) }
-    ensures sink_cause { result.stop ≡ Stop.AtSinkFault → Rose (K.faults sink.old) (K.faults sink.new) }
-    ensures sink_later { K.faults sink.old ≤ K.faults sink.new }
-    ensures keeper_later { D.faults keeper.old ≤ D.faults keeper.new }
-    ensures vault_later { V.faults vault.old ≤ V.faults vault.new }
+        (K.shown sink.old) (K.shown sink.new)
+        (world library.old (D.shown keeper.old) (V.shown vault.old))
+        (world library.new (D.shown keeper.new) (V.shown vault.new)) }
+    ensures sink { CountsFault (result.stop ≡ Stop.AtSinkFault) (K.shown sink.old).faults (K.shown sink.new).faults }
+    ensures later { KeepsFaults (world library.old (D.shown keeper.old) (V.shown vault.old))
+        (world library.new (D.shown keeper.new) (V.shown vault.new)) }
 {
     let mut rest = input;
     let mut answered = 0u32;
@@ -184,14 +180,13 @@ fn serve_next<K: Sink, D: Keeper, V: Vault>(
     bytes: &[u8],
     sink: &mut K,
 ) -> Turn
-    ensures turns { (s : State) → Keeps library.old s → Turns s bytes.now result (K.written sink.old) (K.written sink.new)
-        (world library.old (D.tables keeper.old) (V.blobs vault.old) (D.faults keeper.old) (V.faults vault.old) (V.calls vault.old))
-        (world library.new (D.tables keeper.new) (V.blobs vault.new) (D.faults keeper.new) (V.faults vault.new) (V.calls vault.new)) }
+    ensures turns { (s : State) → Keeps library.old s → Turns s bytes.now result (K.shown sink.old) (K.shown sink.new)
+        (world library.old (D.shown keeper.old) (V.shown vault.old))
+        (world library.new (D.shown keeper.new) (V.shown vault.new)) }
     ensures goes_on { GoesOn bytes.now result }
-    ensures sink_cause { result ≡ Turn.Stopped Stop.AtSinkFault → Rose (K.faults sink.old) (K.faults sink.new) }
-    ensures sink_later { K.faults sink.old ≤ K.faults sink.new }
-    ensures keeper_later { D.faults keeper.old ≤ D.faults keeper.new }
-    ensures vault_later { V.faults vault.old ≤ V.faults vault.new }
+    ensures sink { CountsFault (result ≡ Turn.Stopped Stop.AtSinkFault) (K.shown sink.old).faults (K.shown sink.new).faults }
+    ensures later { KeepsFaults (world library.old (D.shown keeper.old) (V.shown vault.old))
+        (world library.new (D.shown keeper.new) (V.shown vault.new)) }
 {
     match frame(bytes) {
         Framed::Ended => Turn::Stopped(Stop::AtEnd),
@@ -231,17 +226,16 @@ fn serve_import<K: Sink, D: Keeper, V: Vault>(
     sink: &mut K,
 ) -> Result<(), Outside>
     ensures ok { (s : State) → Keeps library.old s → OnOk result
-        (Replied s (change (record { command = Command.Import file.now })) (K.written sink.old) (K.written sink.new)
-        (world library.old (D.tables keeper.old) (V.blobs vault.old) (D.faults keeper.old) (V.faults vault.old) (V.calls vault.old))
-        (world library.new (D.tables keeper.new) (V.blobs vault.new) (D.faults keeper.new) (V.faults vault.new) (V.calls vault.new))) }
+        (Replied s (change (record { command = Command.Import file.now })) (K.shown sink.old) (K.shown sink.new)
+        (world library.old (D.shown keeper.old) (V.shown vault.old))
+        (world library.new (D.shown keeper.new) (V.shown vault.new))) }
     ensures err { (s : State) → Keeps library.old s → OnErr result
-        (PartlyReplied s (change (record { command = Command.Import file.now })) (K.written sink.old) (K.written sink.new)
-        (world library.old (D.tables keeper.old) (V.blobs vault.old) (D.faults keeper.old) (V.faults vault.old) (V.calls vault.old))
-        (world library.new (D.tables keeper.new) (V.blobs vault.new) (D.faults keeper.new) (V.faults vault.new) (V.calls vault.new))) }
-    ensures sink_cause { IsErrOf result Outside.Failed → Rose (K.faults sink.old) (K.faults sink.new) }
-    ensures sink_later { K.faults sink.old ≤ K.faults sink.new }
-    ensures keeper_later { D.faults keeper.old ≤ D.faults keeper.new }
-    ensures vault_later { V.faults vault.old ≤ V.faults vault.new }
+        (PartlyReplied s (change (record { command = Command.Import file.now })) (K.shown sink.old) (K.shown sink.new)
+        (world library.old (D.shown keeper.old) (V.shown vault.old))
+        (world library.new (D.shown keeper.new) (V.shown vault.new))) }
+    ensures sink { CountsFault (IsErrOf result Outside.Failed) (K.shown sink.old).faults (K.shown sink.new).faults }
+    ensures later { KeepsFaults (world library.old (D.shown keeper.old) (V.shown vault.old))
+        (world library.new (D.shown keeper.new) (V.shown vault.new)) }
 {
     let given = answer_import(alloc, library, file, keeper, vault);
     write_given(alloc, &given, sink)
@@ -256,12 +250,11 @@ fn serve_question<K: Sink, V: Vault>(
     sink: &mut K,
 ) -> Result<(), Outside>
     ensures ok { (s : State) (w : World) → Keeps w.library s → w.library ≡ library.now → OnOk result
-        (Replied s (asked.question question.now) (K.written sink.old) (K.written sink.new) w w) }
+        (Replied s (asked.question question.now) (K.shown sink.old) (K.shown sink.new) w w) }
     ensures err { (s : State) (w : World) → Keeps w.library s → w.library ≡ library.now → OnErr result
-        (PartlyReplied s (asked.question question.now) (K.written sink.old) (K.written sink.new) w w) }
+        (PartlyReplied s (asked.question question.now) (K.shown sink.old) (K.shown sink.new) w w) }
     ensures vault { vault.new ≡ vault.old }
-    ensures sink_cause { IsErrOf result Outside.Failed → Rose (K.faults sink.old) (K.faults sink.new) }
-    ensures sink_later { K.faults sink.old ≤ K.faults sink.new }
+    ensures sink { CountsFault (IsErrOf result Outside.Failed) (K.shown sink.old).faults (K.shown sink.new).faults }
 {
     let answer = ask(library, question, vault).ok();
     write_given(alloc, &answer, sink)

@@ -21,9 +21,7 @@ impl<R: Read> StdSource<R> {
 }
 
 impl<R: Read> Source for StdSource<R> {
-    ghost left = { λ s. R.remaining s.reader };
-
-    ghost faults = { λ s. s.faults };
+    ghost shown = { λ s. record { left = R.remaining s.reader; faults = s.faults } };
 
     /// Reads once from the reader, into the whole piece.
     fn read(&mut self, into: &mut [u8]) -> Result<usize, Failed> {
@@ -54,9 +52,7 @@ impl<W: Write> StdSink<W> {
 }
 
 impl<W: Write> Sink for StdSink<W> {
-    ghost written = { λ s. W.contents s.writer };
-
-    ghost faults = { λ s. s.faults };
+    ghost shown = { λ s. record { written = W.contents s.writer; faults = s.faults } };
 
     /// Writes once to the writer. A write that takes nothing of a piece that isn't empty is a fault.
     fn write(&mut self, piece: &[u8]) -> Result<usize, Outside> {

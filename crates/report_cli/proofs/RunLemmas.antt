@@ -1,6 +1,8 @@
 -- Lemmas on runs.
 use Rattle.std.proofs.Common.{◌≡◌, ◌≢◌, ◌≤◌, ◌<◌, ◌⊎◌, ℕ, List, [], ◌++◌, length, inl, inr, IsSome, IsNone, Option, None, Some, IfSome, refl, sym, ap, ◌∙◌, arith, rules, Ok, Err, subst, length-append, append-nil}
 use Rattle.std.specs.Io.KnownBytes.{Consumes, IsAtEnd}
+use Rattle.lib_base.specs.Sources.{SourceView}
+use Rattle.lib_base.specs.Writes.{SinkView}
 use Rattle.keeper_store.specs.Changes.{empty_tables}
 use Rattle.keeper_store.specs.Goes.{Goes}
 use Rattle.keeper_store.specs.declared.contents.Tables.{Tables}
@@ -23,7 +25,7 @@ use Rattle.library_http.specs.World.{World}
 use Rattle.report_cli.specs.declared.statuses.Status.{Status}
 use Rattle.report_cli.specs.declared.statuses.Status.TheVariants as status
 use Rattle.report_cli.specs.Statuses.{code, status_of}
-use Rattle.report_cli.specs.Running.{Seen, Course, not_a_command, not_opened, served, Runs, Prints, IsCommand, IsBrokenOff, IsFixed, IsComplete, status_at, usage_line, bad_row_line, world_of}
+use Rattle.report_cli.specs.Running.{Seen, Course, not_a_command, not_opened, served, Runs, Prints, IsCommand, IsBrokenOff, IsFixed, IsComplete, status_at, usage_line, bad_row_line}
 
 -- a library of no row keeps the empty state
 pub keeps_empty : (library : Library) → kept_tables library ≡ empty_tables → Keeps library empty_state
@@ -77,17 +79,17 @@ over_empty (Some t) P h = λ bad. let Q : Tables → Type 0 = λ u. IsSome (firs
 
 -- what the status may be where a row of the tables breaks a rule
 pub bad_row_status : (course : Course) (words : List (List ℕ)) (before now : Seen) (n : ℕ) → Runs course words before now n → IsCommand words
-    → IfSome before.tables (λ t. IsSome (first_bad t) → (n ≡ code status.BadRow) ⊎ ((n ≡ code status.KeeperFault) ⊎ IsBrokenOff n))
+    → IfSome before.keeper.tables (λ t. IsSome (first_bad t) → (n ≡ code status.BadRow) ⊎ ((n ≡ code status.KeeperFault) ⊎ IsBrokenOff n))
 bad_row_status not_a_command words before now n runs is = absurd (runs.0 is)
-bad_row_status (not_opened refusal.KeeperFault) words before now n runs is = for_told before.tables _ (λ t h. inr (inl runs.3))
-bad_row_status (not_opened refusal.Memory) words before now n runs is = for_told before.tables _ (λ t h. inr (inr (inr runs.3)))
-bad_row_status (not_opened (refusal.BadRow row)) words before now n runs is = for_told before.tables _ (λ t h. printed _ _ _ runs.3)
+bad_row_status (not_opened refusal.KeeperFault) words before now n runs is = for_told before.keeper.tables _ (λ t h. inr (inl runs.3))
+bad_row_status (not_opened refusal.Memory) words before now n runs is = for_told before.keeper.tables _ (λ t h. inr (inr (inr runs.3)))
+bad_row_status (not_opened (refusal.BadRow row)) words before now n runs is = for_told before.keeper.tables _ (λ t h. printed (bad_row_line row) before.sink now.sink runs.3)
   where
-    printed : (line : List ℕ) (text_before text_now : Option (List ℕ)) → Prints line status.BadRow text_before text_now n
+    printed : (line : List ℕ) (sink_before sink_now : SinkView) → Prints line status.BadRow sink_before sink_now n
         → (n ≡ code status.BadRow) ⊎ ((n ≡ code status.KeeperFault) ⊎ IsBrokenOff n)
-    printed line text_before text_now (inl whole) = inl whole.0
-    printed line text_before text_now (inr broken) = inr (inr broken.0)
-bad_row_status (served how answered) words before now n runs is = over_empty before.tables _ runs.1.empty
+    printed line sink_before sink_now (inl whole) = inl whole.0
+    printed line sink_before sink_now (inr broken) = inr (inr broken.0)
+bad_row_status (served how answered) words before now n runs is = over_empty before.keeper.tables _ runs.1.empty
 
 -- ---- the status that is fixed
 
@@ -117,31 +119,33 @@ unframeable_end input left taken requests reply took whole (inr long) =
     ([], size_refusal, inr (longer, refl, refl))
 
 -- what a session that ended so says of the end of the input
-session_end : (how : How) (answered : ℕ) (input : List ℕ) (left text0 text1 : Option (List ℕ)) (w0 w1 : World)
-    → Session empty_state how answered (Some input) left text0 text1 w0 w1
+session_end : (how : How) (answered : ℕ) (input : List ℕ) (source0 source1 : SourceView) (sink0 sink1 : SinkView) (w0 w1 : World)
+    → source0.left ≡ Some input → Session empty_state how answered source0 source1 sink0 sink1 w0 w1
     → ¬ (status_of how ≡ status.SourceFault) → ¬ (status_of how ≡ status.SinkFault)
     → (status_of how ≡ status.Memory)
     ⊎ ((requests : List Asked) × (end : End) × RequestsOf input requests end × (status_of how ≡ status_at end))
-session_end ending.Ended answered input left text0 text1 w0 w1 session source sink =
+session_end ending.Ended answered input source0 source1 sink0 sink1 w0 w1 told session source sink =
+    let took = subst (λ (l : Option (List ℕ)). Consumes l source1.left session.0) told session.1 in
     inr (
       session.5.requests,
       ended,
       subst (λ (b : List ℕ). RequestsOf b session.5.requests ended)
-          (taken_whole input left session.0 session.1 session.2) session.5.reads,
+          (taken_whole input source1.left session.0 took session.2) session.5.reads,
       refl,
     )
-session_end ending.Unframeable answered input left text0 text1 w0 w1 session source sink =
-    let end = unframeable_end input left session.0 session.7.requests session.4 session.1 session.3 session.7.reads in
+session_end ending.Unframeable answered input source0 source1 sink0 sink1 w0 w1 told session source sink =
+    let took = subst (λ (l : Option (List ℕ)). Consumes l source1.left session.0) told session.1 in
+    let end = unframeable_end input source1.left session.0 session.7.requests session.4 took session.3 session.7.reads in
     inr (end.0, unframeable end.1, end.2, refl)
-session_end ending.SourceFault answered input left text0 text1 w0 w1 session source sink = absurd (source refl)
-session_end ending.SinkFault answered input left text0 text1 w0 w1 session source sink = absurd (sink refl)
-session_end ending.Memory answered input left text0 text1 w0 w1 session source sink = inl refl
+session_end ending.SourceFault answered input source0 source1 sink0 sink1 w0 w1 told session source sink = absurd (source refl)
+session_end ending.SinkFault answered input source0 source1 sink0 sink1 w0 w1 told session source sink = absurd (sink refl)
+session_end ending.Memory answered input source0 source1 sink0 sink1 w0 w1 told session source sink = inl refl
 
 -- a line that was printed fixes the status, where the sink counted no fault
-printed_status : (line : List ℕ) (meant : Status) (text0 text1 : Option (List ℕ)) (n : ℕ) → Prints line meant text0 text1 n
+printed_status : (line : List ℕ) (meant : Status) (sink0 sink1 : SinkView) (n : ℕ) → Prints line meant sink0 sink1 n
     → n ≢ code status.SinkFault → (n ≡ code status.Memory) ⊎ (n ≡ code meant)
-printed_status line meant text0 text1 n (inl whole) sink = inr whole.0
-printed_status line meant text0 text1 n (inr (broken, part)) sink = elim broken [ inl fault ↦ absurd (sink fault) | inr memory ↦ inl memory ]
+printed_status line meant sink0 sink1 n (inl whole) sink = inr whole.0
+printed_status line meant sink0 sink1 n (inr (broken, part)) sink = elim broken [ inl fault ↦ absurd (sink fault) | inr memory ↦ inl memory ]
 
 -- a fact of what is told is one of what both tell
 told_both : (P : List ℕ → Tables → Type 0) (left : Option (List ℕ)) (tables : Option Tables)
@@ -163,28 +167,27 @@ some_or_none (Some row) some none = search rules
 -- the status that words, an input and tables fix, by how far the run came
 fixed_as : (course : Course) (words : List (List ℕ)) (before now : Seen) (n : ℕ) → Runs course words before now n
     → n ≢ code status.SourceFault → n ≢ code status.SinkFault → n ≢ code status.KeeperFault
-    → (input : List ℕ) → before.left ≡ Some input → (t : Tables) → before.tables ≡ Some t
+    → (input : List ℕ) → before.source.left ≡ Some input → (t : Tables) → before.keeper.tables ≡ Some t
     → (n ≡ code status.Memory) ⊎ IsFixed words input t n
 fixed_as not_a_command words before now n runs source sink keeper input left t told =
-    elim (printed_status usage_line status.Usage before.written now.written n runs.2 sink) [
+    elim (printed_status usage_line status.Usage before.sink now.sink n runs.2 sink) [
       | inl memory ↦ inl memory
       | inr printed ↦ inr (inl (runs.0, printed))
     ]
 fixed_as (not_opened refusal.KeeperFault) words before now n runs source sink keeper input left t told = absurd (keeper runs.3)
 fixed_as (not_opened refusal.Memory) words before now n runs source sink keeper input left t told = inl runs.3
 fixed_as (not_opened (refusal.BadRow row)) words before now n runs source sink keeper input left t told =
-    let bad : first_bad t ≡ Some row = of_told (λ u. first_bad u ≡ Some row) before.tables t told runs.2 in
+    let bad : first_bad t ≡ Some row = of_told (λ u. first_bad u ≡ Some row) before.keeper.tables t told runs.2 in
     let some : IsSome (first_bad t) = subst (λ (o : Option BadRow). IsSome o) (sym bad) refl in
-    elim (printed_status (bad_row_line row) status.BadRow before.written now.written n runs.3 sink) [
+    elim (printed_status (bad_row_line row) status.BadRow before.sink now.sink n runs.3 sink) [
       | inl memory ↦ inl memory
       | inr printed ↦ inr (inr (inl (runs.0, some, printed)))
     ]
 fixed_as (served how answered) words before now n runs source sink keeper input left t told =
-    let empty : t ≡ empty_tables = of_told (λ u. u ≡ empty_tables) before.tables t told runs.1.empty in
+    let empty : t ≡ empty_tables = of_told (λ u. u ≡ empty_tables) before.keeper.tables t told runs.1.empty in
     let good : IsNone (first_bad t) = subst (λ (u : Tables). IsNone (first_bad u)) (sym empty) refl in
-    let session = subst (λ (l : Option (List ℕ)). Session empty_state how answered l now.left runs.1.opened.written now.written
-    (world_of runs.1.library runs.1.opened) (world_of runs.1.ran.library_now now)) (runs.1.opens.left ∙ left) runs.1.ran.session in
-    elim (session_end how answered input now.left runs.1.opened.written now.written _ _ session
+    elim (session_end how answered input runs.1.opened.source now.source runs.1.opened.sink now.sink _ _
+    (ap (λ (v : SourceView). v.left) runs.1.opens.source ∙ left) runs.1.ran.session
     (λ is. source (runs.2 ∙ ap code is)) (λ is. sink (runs.2 ∙ ap code is))) [
       | inl memory ↦ inl (runs.2 ∙ ap code memory)
       | inr end ↦ inr (inr (inr (runs.0, good, (end.0, end.1, end.2, runs.2 ∙ ap code end.3))))
@@ -193,9 +196,9 @@ fixed_as (served how answered) words before now n runs source sink keeper input 
 -- Where no count rose, the status is the one that is fixed, or memory was wanting.
 pub fixed_status : (course : Course) (words : List (List ℕ)) (before now : Seen) (n : ℕ) → Runs course words before now n
     → n ≢ code status.SourceFault → n ≢ code status.SinkFault → n ≢ code status.KeeperFault
-    → IsComplete words before.left before.tables n
+    → IsComplete words before.source.left before.keeper.tables n
 fixed_status course words before now n runs source sink keeper =
-    told_both (λ input t. (n ≡ code status.Memory) ⊎ IsFixed words input t n) before.left before.tables
+    told_both (λ input t. (n ≡ code status.Memory) ⊎ IsFixed words input t n) before.source.left before.keeper.tables
     (fixed_as course words before now n runs source sink keeper)
 
 -- Words, an input and tables fix one status.

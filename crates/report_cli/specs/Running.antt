@@ -1,10 +1,13 @@
 -- What a run of the program does.
 use Rattle.std.specs.Prelude.{◌≡◌, ◌≤◌, ◌⊎◌, ℕ, List, [], ◌∷◌, ◌++◌, Option, Some, IfSome, IsSome, IsNone, codes, decimal}
 use Rattle.std.specs.Io.KnownBytes.{Appends}
-use Rattle.lib_base.specs.Writes.{AppendsPart}
-use Rattle.keeper_store.specs.Blobs.{Blobs}
+use Rattle.lib_base.specs.Faults.{Rose, CountsFault}
+use Rattle.lib_base.specs.Sources.{SourceView}
+use Rattle.lib_base.specs.Writes.{AppendsPart, SinkView}
 use Rattle.keeper_store.specs.Changes.{empty_tables}
 use Rattle.keeper_store.specs.Goes.{Goes}
+use Rattle.keeper_store.specs.Keepers.{KeeperView}
+use Rattle.keeper_store.specs.Vaults.{VaultView}
 use Rattle.keeper_store.specs.declared.contents.Tables.{Tables}
 use Rattle.library_model.specs.Asked.{Asked}
 use Rattle.library_model.specs.Framing.{End, ended, unframeable, RequestsOf}
@@ -22,32 +25,20 @@ use Rattle.report_cli.specs.declared.statuses.Status.{Status}
 use Rattle.report_cli.specs.declared.statuses.Status.TheVariants as status
 use Rattle.report_cli.specs.Statuses.{code, status_of}
 
--- What a run sees of its objects: what is left of the source, what was written to the sink, what the keeper and the vault
--- tell, their counts of faults, and how often the vault was called.
+-- what a run sees of its objects: what the source, the sink, the keeper and the vault tell
 pub record Seen : Type 0 where
-  pub left : Option (List ℕ)
-  pub written : Option (List ℕ)
-  pub tables : Option Tables
-  pub blobs : Option Blobs
-  pub keeper_faults : ℕ
-  pub vault_faults : ℕ
-  pub vault_calls : ℕ
+  pub source : SourceView
+  pub sink : SinkView
+  pub keeper : KeeperView
+  pub vault : VaultView
 
 -- what is seen of these
-abbrev pub seen : Option (List ℕ) → Option (List ℕ) → Option Tables → Option Blobs → ℕ → ℕ → ℕ → Seen
-seen left written tables blobs keeper_faults vault_faults vault_calls = record {
-  left = left;
-  written = written;
-  tables = tables;
-  blobs = blobs;
-  keeper_faults = keeper_faults;
-  vault_faults = vault_faults;
-  vault_calls = vault_calls;
-}
+abbrev pub seen : SourceView → SinkView → KeeperView → VaultView → Seen
+seen source sink keeper vault = record { source = source; sink = sink; keeper = keeper; vault = vault }
 
 -- what a session sees: a library, and the keeper and the vault
 abbrev pub world_of : Library → Seen → World
-world_of library s = world library s.tables s.blobs s.keeper_faults s.vault_faults s.vault_calls
+world_of library s = world library s.keeper s.vault
 
 -- the words are the command: the one word `session`
 abbrev pub IsCommand : List (List ℕ) → Type 0
@@ -67,32 +58,32 @@ abbrev pub IsBrokenOff : ℕ → Type 0
 IsBrokenOff n = (n ≡ code status.SinkFault) ⊎ (n ≡ code status.Memory)
 
 -- The line was written, and the status is the one that was meant; or a part of it was written, and the run broke off.
-abbrev pub Prints : List ℕ → Status → Option (List ℕ) → Option (List ℕ) → ℕ → Type 0
-Prints line meant text_before text_now n =
-    ((n ≡ code meant) × Appends text_before text_now line)
-    ⊎ (IsBrokenOff n × AppendsPart text_before text_now line)
+abbrev pub Prints : List ℕ → Status → SinkView → SinkView → ℕ → Type 0
+Prints line meant sink_before sink_now n =
+    ((n ≡ code meant) × Appends sink_before.written sink_now.written line)
+    ⊎ (IsBrokenOff n × AppendsPart sink_before.written sink_now.written line)
 
--- The source, the keeper's tables and the vault are as they were. The keeper may have counted faults.
+-- The source, the keeper's tables and the vault are as they were, and nothing was applied. The keeper may have counted
+-- faults.
 pub record Leaves (before now : Seen) : Type 0 where
-  pub left : now.left ≡ before.left
-  pub tables : Goes (λ old new. new ≡ old) before.tables now.tables
-  pub blobs : now.blobs ≡ before.blobs
-  pub keeper_faults : before.keeper_faults ≤ now.keeper_faults
-  pub vault_faults : now.vault_faults ≡ before.vault_faults
-  pub vault_calls : now.vault_calls ≡ before.vault_calls
+  pub source : now.source ≡ before.source
+  pub tables : Goes (λ t u. u ≡ t) before.keeper.tables now.keeper.tables
+  pub faults : before.keeper.faults ≤ now.keeper.faults
+  pub applies : now.keeper.applies ≡ before.keeper.applies
+  pub vault : now.vault ≡ before.vault
 
 -- A session over a library ran from the empty state, and ended so, with so many requests answered whole.
 pub record SessionRan (library : Library) (how : How) (answered : ℕ) (before now : Seen) : Type 0 where
   pub library_now : Library
-  pub session : Session empty_state how answered before.left now.left before.written now.written
+  pub session : Session empty_state how answered before.source now.source before.sink now.sink
       (world_of library before) (world_of library_now now)
 
 -- The library of the tables was opened, which were empty where the keeper tells them, and then a session ran.
 pub record Served (how : How) (answered : ℕ) (before now : Seen) : Type 0 where
-  pub empty : IfSome before.tables (λ t. t ≡ empty_tables)
+  pub empty : IfSome before.keeper.tables (λ t. t ≡ empty_tables)
   pub opened : Seen
   pub opens : Leaves before opened
-  pub unwritten : opened.written ≡ before.written
+  pub unwritten : opened.sink ≡ before.sink
   pub library : Library
   pub keeps : kept_tables library ≡ empty_tables
   pub ran : SessionRan library how answered opened now
@@ -109,14 +100,14 @@ pub data Course : Type 0 where
 -- What a run over these words does that comes so far and ends with status n.
 abbrev pub Runs : Course → List (List ℕ) → Seen → Seen → ℕ → Type 0
 Runs not_a_command words before now n =
-    ¬ IsCommand words × Leaves before now × Prints usage_line status.Usage before.written now.written n
+    ¬ IsCommand words × Leaves before now × Prints usage_line status.Usage before.sink now.sink n
 Runs (not_opened refusal.KeeperFault) words before now n =
-    IsCommand words × Leaves before now × (now.written ≡ before.written) × (n ≡ code status.KeeperFault)
+    IsCommand words × Leaves before now × (now.sink ≡ before.sink) × (n ≡ code status.KeeperFault)
 Runs (not_opened refusal.Memory) words before now n =
-    IsCommand words × Leaves before now × (now.written ≡ before.written) × (n ≡ code status.Memory)
+    IsCommand words × Leaves before now × (now.sink ≡ before.sink) × (n ≡ code status.Memory)
 Runs (not_opened (refusal.BadRow row)) words before now n =
-    IsCommand words × Leaves before now × IfSome before.tables (λ t. first_bad t ≡ Some row)
-    × Prints (bad_row_line row) status.BadRow before.written now.written n
+    IsCommand words × Leaves before now × IfSome before.keeper.tables (λ t. first_bad t ≡ Some row)
+    × Prints (bad_row_line row) status.BadRow before.sink now.sink n
 Runs (served how answered) words before now n =
     IsCommand words × Served how answered before now × (n ≡ code (status_of how))
 
@@ -138,3 +129,20 @@ IsFixed words input tables n =
 abbrev pub IsComplete : List (List ℕ) → Option (List ℕ) → Option Tables → ℕ → Type 0
 IsComplete words left tables n =
     IfSome left (λ input. IfSome tables (λ t. (n ≡ code status.Memory) ⊎ IsFixed words input t n))
+
+-- The causes of the statuses. No count of faults falls, and the status of a fault of source, sink or keeper means that its
+-- count rose. The status of words that are no command is theirs alone, and that of a bad row such tables' alone; the one
+-- words and the other tables have no other status, but where the run broke off, or the keeper failed. Where none of these
+-- counts rose, the status is the one that words, input and tables fix, or memory was wanting.
+pub record Causes (words : List (List ℕ)) (before now : Seen) (n : ℕ) : Type 0 where
+  pub of_source : CountsFault (n ≡ code status.SourceFault) before.source.faults now.source.faults
+  pub of_sink : CountsFault (n ≡ code status.SinkFault) before.sink.faults now.sink.faults
+  pub of_keeper : CountsFault (n ≡ code status.KeeperFault) before.keeper.faults now.keeper.faults
+  pub of_vault : before.vault.faults ≤ now.vault.faults
+  pub usage_cause : n ≡ code status.Usage → ¬ IsCommand words
+  pub usage : ¬ IsCommand words → (n ≡ code status.Usage) ⊎ IsBrokenOff n
+  pub bad_row_cause : n ≡ code status.BadRow → IfSome before.keeper.tables (λ t. IsSome (first_bad t))
+  pub bad_row : IsCommand words → IfSome before.keeper.tables (λ t. IsSome (first_bad t)
+      → (n ≡ code status.BadRow) ⊎ ((n ≡ code status.KeeperFault) ⊎ IsBrokenOff n))
+  pub complete : ¬ Rose before.source.faults now.source.faults → ¬ Rose before.sink.faults now.sink.faults
+      → ¬ Rose before.keeper.faults now.keeper.faults → IsComplete words before.source.left before.keeper.tables n

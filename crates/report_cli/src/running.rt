@@ -1,10 +1,10 @@
 //! A run of the program: its words, the opening of the library, and the command.
-ghost use Rattle.std.specs.Prelude.{◌≡◌, ◌≢◌, ◌≤◌, ◌↔◌, ◌⊎◌, ℕ, List, false, map, IfSome, IfOk, IsSome, IsTrue, string_bytes};
-ghost use Rattle.lib_base.specs.Faults.{Rose};
+ghost use Rattle.std.specs.Prelude.{◌≡◌, ◌≢◌, ◌≤◌, ◌↔◌, ℕ, List, false, map, IfSome, IfOk, IsSome, IsTrue, string_bytes};
+ghost use Rattle.lib_base.specs.Faults.{CountsFault};
 ghost use Rattle.catalogue_core.specs.Opening.{first_bad};
 ghost use Rattle.keeper_store.specs.Changes.{empty_tables};
 ghost use Rattle.catalogue_core.specs.Kept.{kept_tables};
-ghost use Rattle.report_cli.specs.Running.{seen, IsCommand, IsBrokenOff, usage_line, bad_row_line, Prints, Course, Runs, SessionRan, IsComplete};
+ghost use Rattle.report_cli.specs.Running.{seen, IsCommand, usage_line, bad_row_line, Prints, Course, Runs, SessionRan, Causes};
 ghost use Rattle.report_cli.specs.Statuses.{code, status_of};
 ghost use Rattle.library_http.specs.declared.serving.How.{How};
 
@@ -32,37 +32,20 @@ pub fn run<S: Source, K: Sink, D: Keeper, V: Vault, O: Door>(
     vault: &mut V,
     door: &mut O,
 ) -> u8
-    requires { O.is_out door.old ≡ false }
+    requires { (O.shown door.old).is_out ≡ false }
 
     ensures runs { (course : Course) × Runs course (map string_bytes words.now)
-        (seen (S.left source.old) (K.written sink.old) (D.tables keeper.old) (V.blobs vault.old) (D.faults keeper.old) (V.faults vault.old) (V.calls vault.old))
-        (seen (S.left source.new) (K.written sink.new) (D.tables keeper.new) (V.blobs vault.new) (D.faults keeper.new) (V.faults vault.new) (V.calls vault.new))
+        (seen (S.shown source.old) (K.shown sink.old) (D.shown keeper.old) (V.shown vault.old))
+        (seen (S.shown source.new) (K.shown sink.new) (D.shown keeper.new) (V.shown vault.new))
         result }
-
-    // The causes of the statuses.
-    ensures usage_cause { result ≡ code Status.Usage → ¬ IsCommand (map string_bytes words.now) }
-    ensures usage { ¬ IsCommand (map string_bytes words.now) → (result ≡ code Status.Usage) ⊎ IsBrokenOff result }
-    ensures source_cause { result ≡ code Status.SourceFault → Rose (S.faults source.old) (S.faults source.new) }
-    ensures sink_cause { result ≡ code Status.SinkFault → Rose (K.faults sink.old) (K.faults sink.new) }
-    ensures keeper_cause { result ≡ code Status.KeeperFault → Rose (D.faults keeper.old) (D.faults keeper.new) }
-    ensures bad_row_cause { result ≡ code Status.BadRow → IfSome (D.tables keeper.old) (λ t. IsSome (first_bad t)) }
-    ensures bad_row { IsCommand (map string_bytes words.now) → IfSome (D.tables keeper.old) (λ t. IsSome (first_bad t)
-        → (result ≡ code Status.BadRow) ⊎ ((result ≡ code Status.KeeperFault) ⊎ IsBrokenOff result)) }
-
-    // Where no count of source, sink or keeper rose, the status is the one that words, input and tables fix, or memory was wanting.
-    ensures complete { ¬ Rose (S.faults source.old) (S.faults source.new) → ¬ Rose (K.faults sink.old) (K.faults sink.new)
-        → ¬ Rose (D.faults keeper.old) (D.faults keeper.new)
-        → IsComplete (map string_bytes words.now) (S.left source.old) (D.tables keeper.old) result }
-
-    // No count of faults falls.
-    ensures source_later { S.faults source.old ≤ S.faults source.new }
-    ensures sink_later { K.faults sink.old ≤ K.faults sink.new }
-    ensures keeper_later { D.faults keeper.old ≤ D.faults keeper.new }
-    ensures vault_later { V.faults vault.old ≤ V.faults vault.new }
+    ensures causes { Causes (map string_bytes words.now)
+        (seen (S.shown source.old) (K.shown sink.old) (D.shown keeper.old) (V.shown vault.old))
+        (seen (S.shown source.new) (K.shown sink.new) (D.shown keeper.new) (V.shown vault.new))
+        result }
 
     // No command lets a connection in.
     ensures door { door.new ≡ door.old }
-    ensures none_out { O.is_out door.new ≡ false }
+    ensures none_out { (O.shown door.new).is_out ≡ false }
 {
     if is_session(words) {
         run_session(alloc, source, sink, keeper, vault).code()
@@ -80,18 +63,15 @@ fn run_session<S: Source, K: Sink, D: Keeper, V: Vault>(
     vault: &mut V,
 ) -> Status
     ensures runs { (words : List (List ℕ)) → IsCommand words → (course : Course) × Runs course words
-        (seen (S.left source.old) (K.written sink.old) (D.tables keeper.old) (V.blobs vault.old) (D.faults keeper.old) (V.faults vault.old) (V.calls vault.old))
-        (seen (S.left source.new) (K.written sink.new) (D.tables keeper.new) (V.blobs vault.new) (D.faults keeper.new) (V.faults vault.new) (V.calls vault.new))
+        (seen (S.shown source.old) (K.shown sink.old) (D.shown keeper.old) (V.shown vault.old))
+        (seen (S.shown source.new) (K.shown sink.new) (D.shown keeper.new) (V.shown vault.new))
         (code result) }
     ensures no_usage { result ≢ Status.Usage }
-    ensures source_cause { result ≡ Status.SourceFault → Rose (S.faults source.old) (S.faults source.new) }
-    ensures sink_cause { result ≡ Status.SinkFault → Rose (K.faults sink.old) (K.faults sink.new) }
-    ensures keeper_cause { result ≡ Status.KeeperFault → Rose (D.faults keeper.old) (D.faults keeper.new) }
-    ensures bad_row_cause { result ≡ Status.BadRow → IfSome (D.tables keeper.old) (λ t. IsSome (first_bad t)) }
-    ensures source_later { S.faults source.old ≤ S.faults source.new }
-    ensures sink_later { K.faults sink.old ≤ K.faults sink.new }
-    ensures keeper_later { D.faults keeper.old ≤ D.faults keeper.new }
-    ensures vault_later { V.faults vault.old ≤ V.faults vault.new }
+    ensures of_source { CountsFault (result ≡ Status.SourceFault) (S.shown source.old).faults (S.shown source.new).faults }
+    ensures of_sink { CountsFault (result ≡ Status.SinkFault) (K.shown sink.old).faults (K.shown sink.new).faults }
+    ensures of_keeper { CountsFault (result ≡ Status.KeeperFault) (D.shown keeper.old).faults (D.shown keeper.new).faults }
+    ensures of_vault { (V.shown vault.old).faults ≤ (V.shown vault.new).faults }
+    ensures bad_row_cause { result ≡ Status.BadRow → IfSome (D.shown keeper.old).tables (λ t. IsSome (first_bad t)) }
 {
     match Library::open(alloc, keeper) {
         Ok(library) => serve(alloc, library, source, sink, keeper, vault),
@@ -111,15 +91,13 @@ fn serve<S: Source, K: Sink, D: Keeper, V: Vault>(
     vault: &mut V,
 ) -> Status
     ensures serves { kept_tables library ≡ empty_tables → (how : How) × (answered : ℕ) × SessionRan library how answered
-        (seen (S.left source.old) (K.written sink.old) (D.tables keeper.old) (V.blobs vault.old) (D.faults keeper.old) (V.faults vault.old) (V.calls vault.old))
-        (seen (S.left source.new) (K.written sink.new) (D.tables keeper.new) (V.blobs vault.new) (D.faults keeper.new) (V.faults vault.new) (V.calls vault.new))
+        (seen (S.shown source.old) (K.shown sink.old) (D.shown keeper.old) (V.shown vault.old))
+        (seen (S.shown source.new) (K.shown sink.new) (D.shown keeper.new) (V.shown vault.new))
         × (result ≡ status_of how) }
-    ensures source_cause { result ≡ Status.SourceFault → Rose (S.faults source.old) (S.faults source.new) }
-    ensures sink_cause { result ≡ Status.SinkFault → Rose (K.faults sink.old) (K.faults sink.new) }
-    ensures source_later { S.faults source.old ≤ S.faults source.new }
-    ensures sink_later { K.faults sink.old ≤ K.faults sink.new }
-    ensures keeper_later { D.faults keeper.old ≤ D.faults keeper.new }
-    ensures vault_later { V.faults vault.old ≤ V.faults vault.new }
+    ensures of_source { CountsFault (result ≡ Status.SourceFault) (S.shown source.old).faults (S.shown source.new).faults }
+    ensures of_sink { CountsFault (result ≡ Status.SinkFault) (K.shown sink.old).faults (K.shown sink.new).faults }
+    ensures of_keeper { (D.shown keeper.old).faults ≤ (D.shown keeper.new).faults }
+    ensures of_vault { (V.shown vault.old).faults ≤ (V.shown vault.new).faults }
 {
     let end = session(alloc, &mut library, keeper, vault, source, sink);
     Status::of_session(end.how)
@@ -127,9 +105,8 @@ fn serve<S: Source, K: Sink, D: Keeper, V: Vault>(
 
 /// Writes the line for a row that breaks a rule.
 fn print_bad_row<K: Sink>(alloc: Global, row: BadRow, sink: &mut K) -> Status
-    ensures prints { Prints (bad_row_line row) Status.BadRow (K.written sink.old) (K.written sink.new) (code result) }
-    ensures cause { result ≡ Status.SinkFault → Rose (K.faults sink.old) (K.faults sink.new) }
-    ensures later { K.faults sink.old ≤ K.faults sink.new }
+    ensures prints { Prints (bad_row_line row) Status.BadRow (K.shown sink.old) (K.shown sink.new) (code result) }
+    ensures faults { CountsFault (result ≡ Status.SinkFault) (K.shown sink.old).faults (K.shown sink.new).faults }
 {
     match bad_row_text(alloc, row) {
         Ok(text) => print(sink, text.as_bytes(), Status::BadRow),
@@ -160,9 +137,9 @@ fn is_session(words: &[String]) -> bool
 
 /// Writes a line, and answers the status that is meant, or why the line wasn't written whole.
 fn print<K: Sink>(sink: &mut K, line: &[u8], meant: Status) -> Status
-    ensures prints { Prints line.now meant (K.written sink.old) (K.written sink.new) (code result) }
-    ensures cause { result ≡ Status.SinkFault → meant ≢ Status.SinkFault → Rose (K.faults sink.old) (K.faults sink.new) }
-    ensures later { K.faults sink.old ≤ K.faults sink.new }
+    ensures prints { Prints line.now meant (K.shown sink.old) (K.shown sink.new) (code result) }
+    ensures faults { CountsFault ((result ≡ Status.SinkFault) × (meant ≢ Status.SinkFault))
+        (K.shown sink.old).faults (K.shown sink.new).faults }
 {
     match write_all(sink, line) {
         Ok(()) => meant,

@@ -14,9 +14,9 @@ returns-in-Broken-clause-staged g c = λ s keeps.
 pub returns-clause-staged : goal.returns-clause-staged
 returns-clause-staged g c = λ s keeps.
     let found = rw (c.as_slice.ensures, c.in-Accepted.is) at c.in_ok-fault.ensures in
-    let stages = rw (c.as_slice-in-Accepted.ensures, keeps.rows) at c.stage_accepted.ensures.stages in
-    let before = g.V.Vault.faults c.args.vault.now in
-    let now = g.V.Vault.faults c.stage_accepted.new.vault in
+    let stages = rw (c.as_slice-in-Accepted.ensures, keeps.rows) at c.stage_accepted.ensures.accepted in
+    let before = (g.V.Vault.shown c.args.vault.now).faults in
+    let now = (g.V.Vault.shown c.stage_accepted.new.vault).faults in
     IfOk-weaker c.stage_accepted.result (StagesAccepted (tables_of s) c.args.file c.in-Accepted.measure before now)
     (StagedFrom s (record { command = Import c.args.file }) before now)
     (λ staged h. StagedFrom-accepted s c.args.file found.0 c.in-Accepted.measure before now staged keeps.valid found.1 found.2 h) stages

@@ -8,5 +8,5 @@ loop-done-preserved g c =
     let taken = rw c.split_at.ensures.back at c.in_ok-done.ensures.content in (
       omega (arith, c.split_at.ensures.back_len, piece.0),
       Appends-take _ _ _ _ _ _ c.loop-done.invariant.1 taken,
-      omega (arith, c.loop-done.invariant.2, c.in_ok-done.ensures.later),
+      omega (arith, c.loop-done.invariant.2, c.in_ok-done.ensures.faults.later),
     )

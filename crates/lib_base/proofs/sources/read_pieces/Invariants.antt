@@ -6,8 +6,8 @@ abbrev pub invariant-pieces : goal.invariant-pieces
 invariant-pieces g l = record {
   within : length l.bytes.items ≤ l.most;
   room : l.most ≤ vec_capacity l.bytes;
-  content : Consumes (g.S.Source.left l.fn.source) (g.S.Source.left l.source) l.bytes.items;
-  later : g.S.Source.faults l.fn.source ≤ g.S.Source.faults l.source;
+  content : Consumes (g.S.Source.shown l.fn.source).left (g.S.Source.shown l.source).left l.bytes.items;
+  later : (g.S.Source.shown l.fn.source).faults ≤ (g.S.Source.shown l.source).faults;
 }
 
 abbrev pub decreases-pieces : goal.decreases-pieces

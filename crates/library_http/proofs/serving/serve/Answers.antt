@@ -6,12 +6,11 @@ use Rattle.library_http.proofs.serving.serve.Goals as goal
 pub requests-init : goal.requests-init
 requests-init g c = (
   omega arith,
-  λ start keeps. Progress-none start c.args.input.now (g.K.Sink.written c.args.sink.now)
-      (world c.args.library.now (g.D.Keeper.tables c.args.keeper.now) (g.V.Vault.blobs c.args.vault.now) (g.D.Keeper.faults c.args.keeper.now) (g.V.Vault.faults c.args.vault.now) (g.V.Vault.calls c.args.vault.now))
+  λ start keeps. Progress-none start c.args.input.now (g.K.Sink.shown c.args.sink.now)
+      (world c.args.library.now (g.D.Keeper.shown c.args.keeper.now) (g.V.Vault.shown c.args.vault.now))
       keeps,
   omega arith,
-  omega arith,
-  omega arith,
+  record { of_keeper = omega arith; of_vault = omega arith },
 )
 
 pub split_at-requires : goal.split_at-requires
@@ -31,21 +30,23 @@ requests-preserved g c =
       λ start keeps.
           let progress = c.requests.invariant.1 start keeps in
           rw c.split_at.ensures.back
-          (Progress-turn start c.args.input.now rest c.requests.answered c.in-Answered.end (g.K.Sink.written c.args.sink.now) (g.K.Sink.written c.requests.sink) (g.K.Sink.written c.serve_next.new.sink)
-          (world c.args.library.now (g.D.Keeper.tables c.args.keeper.now) (g.V.Vault.blobs c.args.vault.now) (g.D.Keeper.faults c.args.keeper.now) (g.V.Vault.faults c.args.vault.now) (g.V.Vault.calls c.args.vault.now))
-          (world c.requests.library (g.D.Keeper.tables c.requests.keeper) (g.V.Vault.blobs c.requests.vault) (g.D.Keeper.faults c.requests.keeper) (g.V.Vault.faults c.requests.vault) (g.V.Vault.calls c.requests.vault))
-          (world c.serve_next.new.library (g.D.Keeper.tables c.serve_next.new.keeper) (g.V.Vault.blobs c.serve_next.new.vault) (g.D.Keeper.faults c.serve_next.new.keeper) (g.V.Vault.faults c.serve_next.new.vault) (g.V.Vault.calls c.serve_next.new.vault))
+          (Progress-turn start c.args.input.now rest c.requests.answered c.in-Answered.end (g.K.Sink.shown c.args.sink.now) (g.K.Sink.shown c.requests.sink) (g.K.Sink.shown c.serve_next.new.sink)
+          (world c.args.library.now (g.D.Keeper.shown c.args.keeper.now) (g.V.Vault.shown c.args.vault.now))
+          (world c.requests.library (g.D.Keeper.shown c.requests.keeper) (g.V.Vault.shown c.requests.vault))
+          (world c.serve_next.new.library (g.D.Keeper.shown c.serve_next.new.keeper) (g.V.Vault.shown c.serve_next.new.vault))
           progress (c.in-Answered.ensures.turns progress.serves.state progress.serves.leads.keeps)),
-      omega (arith, c.requests.invariant.2, c.in-Answered.ensures.sink_later),
-      omega (arith, c.requests.invariant.3, c.in-Answered.ensures.keeper_later),
-      omega (arith, c.requests.invariant.4, c.in-Answered.ensures.vault_later),
+      omega (arith, c.requests.invariant.2, c.in-Answered.ensures.sink.later),
+      record {
+        of_keeper = omega (arith, c.requests.invariant.3.of_keeper, c.in-Answered.ensures.later.of_keeper);
+        of_vault = omega (arith, c.requests.invariant.3.of_vault, c.in-Answered.ensures.later.of_vault);
+      },
     )
 
 pub returns-in-Stopped-clause-stops : goal.returns-in-Stopped-clause-stops
 returns-in-Stopped-clause-stops g c = λ start keeps.
     let progress = c.requests.invariant.1 start keeps in
-    Progress-Stops start c.args.input.now c.requests.rest.now c.requests.answered c.in-Stopped.stop (g.K.Sink.written c.args.sink.now) (g.K.Sink.written c.requests.sink) (g.K.Sink.written c.serve_next.new.sink)
-    (world c.args.library.now (g.D.Keeper.tables c.args.keeper.now) (g.V.Vault.blobs c.args.vault.now) (g.D.Keeper.faults c.args.keeper.now) (g.V.Vault.faults c.args.vault.now) (g.V.Vault.calls c.args.vault.now))
-    (world c.requests.library (g.D.Keeper.tables c.requests.keeper) (g.V.Vault.blobs c.requests.vault) (g.D.Keeper.faults c.requests.keeper) (g.V.Vault.faults c.requests.vault) (g.V.Vault.calls c.requests.vault))
-    (world c.serve_next.new.library (g.D.Keeper.tables c.serve_next.new.keeper) (g.V.Vault.blobs c.serve_next.new.vault) (g.D.Keeper.faults c.serve_next.new.keeper) (g.V.Vault.faults c.serve_next.new.vault) (g.V.Vault.calls c.serve_next.new.vault))
+    Progress-Stops start c.args.input.now c.requests.rest.now c.requests.answered c.in-Stopped.stop (g.K.Sink.shown c.args.sink.now) (g.K.Sink.shown c.requests.sink) (g.K.Sink.shown c.serve_next.new.sink)
+    (world c.args.library.now (g.D.Keeper.shown c.args.keeper.now) (g.V.Vault.shown c.args.vault.now))
+    (world c.requests.library (g.D.Keeper.shown c.requests.keeper) (g.V.Vault.shown c.requests.vault))
+    (world c.serve_next.new.library (g.D.Keeper.shown c.serve_next.new.keeper) (g.V.Vault.shown c.serve_next.new.vault))
     c.requires progress (c.in-Stopped.ensures.turns progress.serves.state progress.serves.leads.keeps)

@@ -8,7 +8,7 @@ returns-clause-ok g c = λ s keeps.
       reply = reply_given c.answer_import-given.result;
       acts = c.answer_import-given.ensures.acts s keeps;
       written = w;
-    }) c.write_given.ensures.ok
+    }) c.write_given.ensures.whole
 
 pub returns-clause-err : goal.returns-clause-err
 returns-clause-err g c = λ s keeps.
@@ -16,4 +16,4 @@ returns-clause-err g c = λ s keeps.
       reply = reply_given c.answer_import-given.result;
       acts = c.answer_import-given.ensures.acts s keeps;
       written = w;
-    }) c.write_given.ensures.err
+    }) c.write_given.ensures.part

@@ -28,7 +28,7 @@ returns-in-Import-clause-goes_on g c =
 
 pub returns-in-Question-clause-turns : goal.returns-in-Question-clause-turns
 returns-in-Question-clause-turns g c = λ s keeps.
-    let w = world c.args.library.now (g.D.Keeper.tables c.args.keeper.now) (g.V.Vault.blobs c.args.vault.now) (g.D.Keeper.faults c.args.keeper.now) (g.V.Vault.faults c.args.vault.now) (g.V.Vault.calls c.args.vault.now) in
+    let w = world c.args.library.now (g.D.Keeper.shown c.args.keeper.now) (g.V.Vault.shown c.args.vault.now) in
     rw c.serve_question.ensures.vault
     (Turns-written s c.args.bytes.now c.in-Question.end (question c.in-Question.question) c.serve_question.result _ _ _ w w c.turn_of-in-Question.ensures
     c.in-Question.ensures (c.serve_question.ensures.ok s w keeps refl) (c.serve_question.ensures.err s w keeps refl))

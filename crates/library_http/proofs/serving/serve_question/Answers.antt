@@ -13,7 +13,7 @@ returns-clause-ok g c = λ s w keeps same.
       reply = reply_given c.ok-answer.result;
       acts = Acts-given s c.args.question.now c.ask.result c.ok-answer.result w keeps c.ok-answer.ensures.value (c.ask.ensures.answers s kept);
       written = written;
-    }) c.write_given.ensures.ok
+    }) c.write_given.ensures.whole
 
 pub returns-clause-err : goal.returns-clause-err
 returns-clause-err g c = λ s w keeps same.
@@ -22,4 +22,4 @@ returns-clause-err g c = λ s w keeps same.
       reply = reply_given c.ok-answer.result;
       acts = Acts-given s c.args.question.now c.ask.result c.ok-answer.result w keeps c.ok-answer.ensures.value (c.ask.ensures.answers s kept);
       written = written;
-    }) c.write_given.ensures.err
+    }) c.write_given.ensures.part

@@ -13,25 +13,25 @@ returns-in_default-clause-session g c = λ start keeps.
 pub returns-then-eq-clause-session : goal.returns-then-eq-clause-session
 returns-then-eq-clause-session g c = λ start keeps.
     let full : c.in-Ok.taken.end ≡ Full = search rules in
-    let read = c.in-Ok.ensures.full full in
+    let read = c.in-Ok.ensures.takes.full full in
     let long : length c.in-Ok.taken.bytes ≡ input_limit + 1 = omega (arith, read) in
-    let ends : EndsBy c.end_by.result _ (g.K.Sink.written c.args.sink.now) (g.K.Sink.written c.end_by.new.sink) =
-    subst (λ (text : List ℕ). EndsBy c.end_by.result text (g.K.Sink.written c.args.sink.now) (g.K.Sink.written c.end_by.new.sink))
+    let ends : EndsBy c.end_by.result _ (g.K.Sink.shown c.args.sink.now) (g.K.Sink.shown c.end_by.new.sink) =
+    subst (λ (text : List ℕ). EndsBy c.end_by.result text (g.K.Sink.shown c.args.sink.now) (g.K.Sink.shown c.end_by.new.sink))
     c.size_reply.ensures c.end_by.ensures.ends in
-    Session-too-long start c.end_by.result (g.S.Source.left c.args.source.now) (g.S.Source.left c.read_up_to.new.source)
-    (g.K.Sink.written c.args.sink.now) (g.K.Sink.written c.end_by.new.sink) c.in-Ok.taken.bytes
-    (world c.args.library.now (g.D.Keeper.tables c.args.keeper.now) (g.V.Vault.blobs c.args.vault.now) (g.D.Keeper.faults c.args.keeper.now) (g.V.Vault.faults c.args.vault.now) (g.V.Vault.calls c.args.vault.now))
-    keeps long c.in-Ok.ensures.content ends
+    Session-too-long start c.end_by.result (g.S.Source.shown c.args.source.now) (g.S.Source.shown c.read_up_to.new.source)
+    (g.K.Sink.shown c.args.sink.now) (g.K.Sink.shown c.end_by.new.sink) c.in-Ok.taken.bytes
+    (world c.args.library.now (g.D.Keeper.shown c.args.keeper.now) (g.V.Vault.shown c.args.vault.now))
+    keeps long c.in-Ok.ensures.takes.content ends
 
 pub returns-clause-session : goal.returns-clause-session
 returns-clause-session g c = λ start keeps.
     let whole : c.in-Ok.taken.end ≢ Full = search rules in
     let short : length c.in-Ok.taken.bytes ≤ input_limit = search rules in
-    let w0 = world c.args.library.now (g.D.Keeper.tables c.args.keeper.now) (g.V.Vault.blobs c.args.vault.now) (g.D.Keeper.faults c.args.keeper.now) (g.V.Vault.faults c.args.vault.now) (g.V.Vault.calls c.args.vault.now) in
-    let w1 = world c.serve-served.new.library (g.D.Keeper.tables c.serve-served.new.keeper) (g.V.Vault.blobs c.serve-served.new.vault) (g.D.Keeper.faults c.serve-served.new.keeper) (g.V.Vault.faults c.serve-served.new.vault) (g.V.Vault.calls c.serve-served.new.vault) in
-    let stops = subst (λ (input : List ℕ). Stops start input c.serve-served.result.stop c.serve-served.result.answered (g.K.Sink.written c.args.sink.now) (g.K.Sink.written c.serve-served.new.sink) w0 w1)
+    let w0 = world c.args.library.now (g.D.Keeper.shown c.args.keeper.now) (g.V.Vault.shown c.args.vault.now) in
+    let w1 = world c.serve-served.new.library (g.D.Keeper.shown c.serve-served.new.keeper) (g.V.Vault.shown c.serve-served.new.vault) in
+    let stops = subst (λ (input : List ℕ). Stops start input c.serve-served.result.stop c.serve-served.result.answered (g.K.Sink.shown c.args.sink.now) (g.K.Sink.shown c.serve-served.new.sink) w0 w1)
     c.as_slice.ensures (c.serve-served.ensures.stops start keeps) in
     Session-after start c.serve-served.result.stop c.in-Ok.taken.end c.end_after.result c.serve-served.result.answered
-    (g.S.Source.left c.args.source.now) (g.S.Source.left c.read_up_to.new.source)
-    (g.K.Sink.written c.args.sink.now) (g.K.Sink.written c.serve-served.new.sink) (g.K.Sink.written c.end_after.new.sink)
-    c.in-Ok.taken.bytes w0 w1 short c.in-Ok.ensures.content c.in-Ok.ensures.at_end whole stops c.end_after.ensures.ends
+    (g.S.Source.shown c.args.source.now) (g.S.Source.shown c.read_up_to.new.source)
+    (g.K.Sink.shown c.args.sink.now) (g.K.Sink.shown c.serve-served.new.sink) (g.K.Sink.shown c.end_after.new.sink)
+    c.in-Ok.taken.bytes w0 w1 short c.in-Ok.ensures.takes.content c.in-Ok.ensures.takes.at_end whole stops c.end_after.ensures.ends

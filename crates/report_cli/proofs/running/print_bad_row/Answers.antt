@@ -6,5 +6,5 @@ use Rattle.report_cli.proofs.running.print_bad_row.Goals as goal
 
 pub returns-in-Ok-clause-prints : goal.returns-in-Ok-clause-prints
 returns-in-Ok-clause-prints g c =
-    let P : List ℕ → Type 0 = λ line. Prints line status.BadRow (g.K.Sink.written c.args.sink.now) (g.K.Sink.written c.print.new.sink) (code c.print.result) in
+    let P : List ℕ → Type 0 = λ line. Prints line status.BadRow (g.K.Sink.shown c.args.sink.now) (g.K.Sink.shown c.print.new.sink) (code c.print.result) in
     subst P (c.as_bytes.ensures.value ∙ c.in-Ok.ensures) c.print.ensures.prints

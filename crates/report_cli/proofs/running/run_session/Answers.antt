@@ -13,9 +13,15 @@ returns-in-Ok-clause-runs g c = λ words is.
         is,
         record {
           empty = opened_empty _ c.in-Ok.library c.in-Ok.ensures.begins c.in-Ok.ensures.opens;
-          opened = seen (g.S.Source.left c.args.source.now) (g.K.Sink.written c.args.sink.now) (g.D.Keeper.tables c.open.new.keeper)
-              (g.V.Vault.blobs c.args.vault.now) (g.D.Keeper.faults c.open.new.keeper) (g.V.Vault.faults c.args.vault.now) (g.V.Vault.calls c.args.vault.now);
-          opens = record { left = refl; tables = c.in-Ok.ensures.tables; blobs = refl; keeper_faults = c.in-Ok.ensures.later; vault_faults = refl; vault_calls = refl };
+          opened = seen (g.S.Source.shown c.args.source.now) (g.K.Sink.shown c.args.sink.now) (g.D.Keeper.shown c.open.new.keeper)
+              (g.V.Vault.shown c.args.vault.now);
+          opens = record {
+            source = refl;
+            tables = c.in-Ok.ensures.tables;
+            faults = c.in-Ok.ensures.faults.later;
+            applies = c.in-Ok.ensures.applies;
+            vault = refl;
+          };
           unwritten = refl;
           library = c.in-Ok.library;
           keeps = c.in-Ok.ensures.begins;
@@ -31,12 +37,11 @@ returns-in-Err-KeeperFault-clause-runs g c = λ words is. (
   (
     is,
     record {
-      left = refl;
+      source = refl;
       tables = c.open.ensures.tables;
-      blobs = refl;
-      keeper_faults = c.open.ensures.later;
-      vault_faults = refl;
-      vault_calls = refl;
+      faults = c.open.ensures.faults.later;
+      applies = c.open.ensures.applies;
+      vault = refl;
     },
     refl,
     refl,
@@ -49,12 +54,11 @@ returns-in-Err-BadRow-clause-runs g c = λ words is. (
   (
     is,
     record {
-      left = refl;
+      source = refl;
       tables = c.open.ensures.tables;
-      blobs = refl;
-      keeper_faults = c.open.ensures.later;
-      vault_faults = refl;
-      vault_calls = refl;
+      faults = c.open.ensures.faults.later;
+      applies = c.open.ensures.applies;
+      vault = refl;
     },
     bad_opened _ _ _ c.in-Err-BadRow.field-0-is c.in-Err-BadRow.ensures.opens,
     c.print_bad_row.ensures.prints,
@@ -67,12 +71,11 @@ returns-in-Err-Memory-clause-runs g c = λ words is. (
   (
     is,
     record {
-      left = refl;
+      source = refl;
       tables = c.open.ensures.tables;
-      blobs = refl;
-      keeper_faults = c.open.ensures.later;
-      vault_faults = refl;
-      vault_calls = refl;
+      faults = c.open.ensures.faults.later;
+      applies = c.open.ensures.applies;
+      vault = refl;
     },
     refl,
     refl,
