@@ -56,7 +56,7 @@ impl MemKeeper {
 
     /// The tables as they are.
     pub fn tables(&self) -> &Tables
-        ensures { ⟦<MemKeeper as Keeper>⟧.tables self.now ≡ Some result.now }
+        ensures { (⟦<MemKeeper as Keeper>⟧.shown self.now).tables ≡ Some result.now }
     {
         &self.tables
     }

@@ -67,7 +67,8 @@ impl MemVault {
 
     /// What the keys hold.
     pub fn blobs(&self) -> &BTreeMap<u32, Bytes>
-        ensures { ⟦<MemVault as Vault>⟧.blobs self.now ≡ Some (λ key. held_at nat_cmp result.now key) }
+        ensures { (⟦<MemVault as Vault>⟧.shown self.now).blobs
+            ≡ Some (λ key. held_at nat_cmp result.now key) }
     {
         &self.blobs
     }

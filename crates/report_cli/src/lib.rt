@@ -6,8 +6,6 @@
 
 mod running;
 mod statuses;
-#[cfg(test)]
-mod tests;
 
 pub use running::run;
 pub use statuses::Status;

@@ -7,6 +7,7 @@
 
 mod cases;
 mod files;
+mod pieces;
 mod reports;
 mod runs;
 

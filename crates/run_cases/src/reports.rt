@@ -11,41 +11,31 @@ use std::fmt::Write;
 /// How a reply begins.
 const REPLY: &[u8] = b"HTTP/1.1 ";
 
-/// Adds the output: one line for each reply, and another before the first where something stands
-/// before it. Its own line ends are written out.
+/// Adds the output. A line of the text begins where a reply does, and the output's own line ends are
+/// written out.
 pub fn add_output(text: &mut String, output: &[u8]) -> Result<()> {
-    let mut rest = output;
-    while !rest.is_empty() {
-        text.push_str("output ")?;
-        let length = reply_length(rest);
-        let (reply, others) = rest.split_at(length);
-        add_escaped(text, reply)?;
-        text.push_str("\n")?;
-        rest = others;
+    if output.is_empty() {
+        return Ok(());
     }
+    text.push_str("output ")?;
+    for (place, byte) in output.iter().enumerate() {
+        if place > 0 && output.split_at(place).1.starts_with(REPLY) {
+            text.push_str("\noutput ")?;
+        }
+        add_escaped(text, *byte)?;
+    }
+    text.push_str("\n")?;
     Ok(())
 }
 
-/// How many bytes stand before the next reply.
-fn reply_length(output: &[u8]) -> usize {
-    for at in 1..output.len() {
-        if output.split_at(at).1.starts_with(REPLY) {
-            return at;
-        }
-    }
-    output.len()
-}
-
-/// Adds bytes as text, those that are no printing characters written out.
-fn add_escaped(text: &mut String, bytes: &[u8]) -> Result<()> {
-    for byte in bytes {
-        match *byte {
-            b'\r' => text.push_str("\\r")?,
-            b'\n' => text.push_str("\\n")?,
-            b'\\' => text.push_str("\\\\")?,
-            b' '..=b'~' => text.push(char::from(*byte))?,
-            other => write!(text, "\\x{other:02x}")?,
-        }
+/// Adds a byte, written out where it is no printing character.
+fn add_escaped(text: &mut String, byte: u8) -> Result<()> {
+    match byte {
+        b'\r' => text.push_str("\\r")?,
+        b'\n' => text.push_str("\\n")?,
+        b'\\' => text.push_str("\\\\")?,
+        b' '..=b'~' => text.push(char::from(byte))?,
+        _ => write!(text, "\\x{byte:02x}")?,
     }
     Ok(())
 }

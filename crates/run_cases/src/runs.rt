@@ -1,8 +1,9 @@
 //! The run of a case.
 
 use crate::cases::Case;
+use crate::pieces::Pieces;
 use crate::reports::{add_keys, add_output, add_tables};
-use anyhow::Result;
+use anyhow::{Result, bail};
 use keeper_store::{MemKeeper, MemVault, Tables};
 use lib_base::{Bytes, MemDoor, MemSink, MemSource};
 use report_cli::run;
@@ -13,12 +14,18 @@ use std::fmt::Write;
 pub fn report(alloc: Global, name: &str, case: Case) -> Result<String> {
     let mut tables = Tables::empty(alloc);
     tables.next_album = case.next_album;
-    let mut source = MemSource::new(Bytes::of(case.input), case.failing.source);
-    let mut sink = MemSink::new(alloc, case.failing.sink);
+    let mut source = Pieces {
+        inner: MemSource::new(Bytes::of(case.input), case.failing.source),
+        most: case.piece,
+    };
+    let mut sink = Pieces {
+        inner: MemSink::new(alloc, case.failing.sink),
+        most: case.room,
+    };
     let mut keeper = MemKeeper::new(alloc, tables, case.failing.keeper);
     let mut vault = MemVault::new(alloc, case.failing.vault);
     let Ok(mut door) = MemDoor::new(alloc, Vec::new(alloc), Vec::new(alloc)) else {
-        anyhow::bail!("want of memory");
+        bail!("want of memory");
     };
     let status = run(
         alloc,
@@ -30,7 +37,7 @@ pub fn report(alloc: Global, name: &str, case: Case) -> Result<String> {
         &mut door,
     );
     let mut text = format!(in alloc; "case {name}\nstatus {status}\n")?;
-    add_output(&mut text, sink.written())?;
+    add_output(&mut text, sink.inner.written())?;
     add_tables(&mut text, keeper.tables())?;
     add_keys(&mut text, vault.blobs())?;
     writeln!(text)?;
