@@ -2,6 +2,7 @@
 
 use crate::files::{File, add_hex, find};
 use anyhow::{Context, Result, bail};
+use keeper_store::Tables;
 use std::alloc::Global;
 
 /// A run: its words, its input, and how its objects behave.
@@ -14,8 +15,7 @@ pub struct Case {
     /// How many bytes the sink takes at most in a write.
     pub room: usize,
     pub failing: Failing,
-    /// The counter of albums in the tables, which are empty otherwise.
-    pub next_album: u32,
+    pub tables: Tables,
 }
 
 /// The calls of each object that fail, by their numbers from 1.
@@ -67,7 +67,7 @@ fn obey_all(alloc: Global, case: &mut Case, lines: &[&str], files: &[File]) -> R
     Ok(())
 }
 
-/// The session over an empty input, in which nothing fails.
+/// The session over an empty input and empty tables, in which nothing fails.
 fn new_case(alloc: Global) -> Result<Case> {
     Ok(Case {
         words: words_of(alloc, "session")?,
@@ -80,7 +80,7 @@ fn new_case(alloc: Global) -> Result<Case> {
             keeper: Vec::new(alloc),
             vault: Vec::new(alloc),
         },
-        next_album: 1,
+        tables: Tables::empty(alloc),
     })
 }
 
@@ -92,7 +92,7 @@ fn obey(alloc: Global, case: &mut Case, line: &str, files: &[File]) -> Result<()
         "fails" => set_failing(alloc, &mut case.failing, rest)?,
         "pieces" => case.piece = rest.parse::<usize>()?,
         "room" => case.room = rest.parse::<usize>()?,
-        "next-album" => case.next_album = rest.parse::<u32>()?,
+        "next-album" => case.tables.next_album = rest.parse::<u32>()?,
         _ => add_input(alloc, &mut case.input, word, rest, files)?,
     }
     Ok(())

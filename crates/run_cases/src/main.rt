@@ -13,6 +13,8 @@ mod runs;
 
 use crate::cases::{Lines, read_case};
 use crate::files::{File, make_file};
+use crate::reports::report;
+use crate::runs::run_case;
 use anyhow::{Context, Result, bail};
 use std::alloc::Global;
 use std::io;
@@ -70,6 +72,7 @@ impl<'a> Told<'a> {
     /// Runs the case of the lines and answers the report.
     fn run(&self, alloc: Global, name: &str, lines: &[&str]) -> Result<String> {
         let (files, cases) = (self.files.as_slice(), self.cases.as_slice());
-        runs::report(alloc, name, read_case(alloc, lines, cases, files)?)
+        let case = read_case(alloc, lines, cases, files)?;
+        report(alloc, name, &run_case(alloc, case)?)
     }
 }

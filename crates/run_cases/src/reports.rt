@@ -1,5 +1,6 @@
 //! What a run leaves, as text.
 
+use crate::runs::Outcome;
 use anyhow::Result;
 use keeper_store::{RecordingRow, SegmentRow, Tables};
 use lib_base::Bytes;
@@ -11,9 +12,20 @@ use std::fmt::Write;
 /// How a reply begins.
 const REPLY: &[u8] = b"HTTP/1.1 ";
 
+/// Tells of a run its status, its output, and the tables and the keys that it leaves.
+pub fn report(alloc: Global, name: &str, outcome: &Outcome) -> Result<String> {
+    let status = outcome.status;
+    let mut text = format!(in alloc; "case {name}\nstatus {status}\n")?;
+    add_output(&mut text, outcome.sink.written())?;
+    add_tables(&mut text, outcome.keeper.tables())?;
+    add_keys(&mut text, outcome.vault.blobs())?;
+    writeln!(text)?;
+    Ok(text)
+}
+
 /// Adds the output. A line of the text begins where a reply does, and the output's own line ends are
 /// written out.
-pub fn add_output(text: &mut String, output: &[u8]) -> Result<()> {
+fn add_output(text: &mut String, output: &[u8]) -> Result<()> {
     if output.is_empty() {
         return Ok(());
     }
@@ -41,7 +53,7 @@ fn add_escaped(text: &mut String, byte: u8) -> Result<()> {
 }
 
 /// Adds the tables: a line for the counters, and a line for each row.
-pub fn add_tables(text: &mut String, tables: &Tables) -> Result<()> {
+fn add_tables(text: &mut String, tables: &Tables) -> Result<()> {
     let (album, recording, take) = (tables.next_album, tables.next_recording, tables.next_take);
     writeln!(text, "counters {album} {recording} {take}")?;
     for row in tables.albums.as_slice() {
@@ -83,7 +95,7 @@ fn add_segments(text: &mut String, row: &SegmentRow) -> Result<()> {
 }
 
 /// Adds what the keys of a vault hold, a line for each.
-pub fn add_keys(text: &mut String, blobs: &BTreeMap<u32, Bytes>) -> Result<()> {
+fn add_keys(text: &mut String, blobs: &BTreeMap<u32, Bytes>) -> Result<()> {
     for (key, bytes) in blobs.iter() {
         write!(text, "key {key}: ")?;
         add_bytes(text, bytes)?;
