@@ -53,6 +53,13 @@ impl MemKeeper {
             applies: 0,
         }
     }
+
+    /// The tables as they are.
+    pub fn tables(&self) -> &Tables
+        ensures { (⟦<MemKeeper as Keeper>⟧.shown self.now).tables ≡ Some result.now }
+    {
+        &self.tables
+    }
 }
 
 impl Keeper for MemKeeper {

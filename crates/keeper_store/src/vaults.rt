@@ -64,6 +64,14 @@ impl MemVault {
     {
         self.plan.calls()
     }
+
+    /// What the keys hold.
+    pub fn blobs(&self) -> &BTreeMap<u32, Bytes>
+        ensures { (⟦<MemVault as Vault>⟧.shown self.now).blobs
+            ≡ Some (λ key. held_at nat_cmp result.now key) }
+    {
+        &self.blobs
+    }
 }
 
 impl Vault for MemVault {

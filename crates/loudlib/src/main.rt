@@ -1,20 +1,15 @@
 //! The program: the command that its words give, over standard input and output, with a library in
 //! memory that begins empty.
 //!
-//! `run` is the whole of it. It promises what the sink gains, what the tables and the files are at
-//! its end, and the cause of each exit status.
+//! `report_cli::run` is the whole of it. What stands here are standard input and output as the
+//! objects of a run, and the words of the command line.
 #![tactic(auto)]
 
-mod running;
-mod statuses;
 mod streams;
-#[cfg(test)]
-mod tests;
 
-use crate::running::run;
-use crate::statuses::Status;
 use keeper_store::{MemKeeper, MemVault, Tables};
 use lib_base::{MemDoor, Memory};
+use report_cli::{Status, run};
 use std::alloc::Global;
 use std::env::Env;
 use std::process::ExitCode;

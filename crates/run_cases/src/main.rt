@@ -1,0 +1,78 @@
+//! Runs the program over objects in memory, case by case, and prints what comes of each run.
+//!
+//! It stands on no path of the product and promises nothing: its stored output is the expectation,
+//! worked out from the definitions. The text of cases comes from standard input, in blocks that an
+//! empty line parts. `docs/CASES.md` says what the lines mean.
+#![tactic(auto)]
+
+mod cases;
+mod files;
+mod pieces;
+mod reports;
+mod runs;
+
+use crate::cases::{Lines, read_case};
+use crate::files::{File, make_file};
+use crate::reports::report;
+use crate::runs::run_case;
+use anyhow::{Context, Result, bail};
+use std::alloc::Global;
+use std::io;
+
+fn main(rt: HostRuntime) -> Result<()> {
+    let alloc = rt.alloc();
+    let text = io::read_to_string(alloc, rt.reader())?;
+    let mut told = Told::new(alloc);
+    for block in text.as_str().split("\n\n") {
+        rt.print(told.obey(alloc, block)?)?;
+    }
+    Ok(())
+}
+
+/// What the blocks so far have told.
+#[derive(Drop)]
+struct Told<'a> {
+    files: Vec<File>,
+    cases: Vec<Lines<'a>>,
+}
+
+impl<'a> Told<'a> {
+    fn new(alloc: Global) -> Told<'a> {
+        Told {
+            files: Vec::new(alloc),
+            cases: Vec::new(alloc),
+        }
+    }
+
+    /// Makes the file of a block, or runs its case and answers the report.
+    fn obey(&mut self, alloc: Global, block: &'a str) -> Result<String> {
+        let mut lines: Vec<&'a str> = block
+            .lines()
+            .filter(|line| !line.starts_with('#') && !line.is_empty())
+            .collect(alloc)?;
+        if lines.is_empty() {
+            return Ok(String::new(alloc));
+        }
+        let head = lines.remove(0);
+        match head.split_once(' ') {
+            Some(("file", name)) => {
+                let file = make_file(alloc, name, lines.as_slice()).context(head)?;
+                self.files.push(file)?;
+                Ok(String::new(alloc))
+            }
+            Some(("case", name)) => {
+                let report = self.run(alloc, name, lines.as_slice()).context(head)?;
+                self.cases.push(Lines { name, lines })?;
+                Ok(report)
+            }
+            _ => bail!("neither a file nor a case: {head}"),
+        }
+    }
+
+    /// Runs the case of the lines and answers the report.
+    fn run(&self, alloc: Global, name: &str, lines: &[&str]) -> Result<String> {
+        let (files, cases) = (self.files.as_slice(), self.cases.as_slice());
+        let case = read_case(alloc, lines, cases, files)?;
+        report(alloc, name, &run_case(alloc, case)?)
+    }
+}
