@@ -85,7 +85,7 @@ channels-interleaved n lists equal =
     first_channels-interleaved (length lists) n lists (omega arith) equal ∙ take_all (length lists) lists (omega arith)
 
 -- a sample of a channel, by its place
-channel_samples-get_or : (k c n t : ℕ) (ys : List ℤ) → t < n → get_or (channel_samples k c n ys) t (pos 0) ≡ get_or ys (k * t + c) (pos 0)
+pub channel_samples-get_or : (k c n t : ℕ) (ys : List ℤ) → t < n → get_or (channel_samples k c n ys) t (pos 0) ≡ get_or ys (k * t + c) (pos 0)
 channel_samples-get_or k c zero t ys before = absurd (omega (arith, before))
 channel_samples-get_or k c (suc n) t ys before =
     let whole = length-channel_samples k c n ys in
@@ -132,6 +132,21 @@ equal-first_channels zero k n ys = All-nil (λ (xs : List ℤ). length xs ≡ n)
 equal-first_channels (suc c) k n ys =
     All-push (λ (xs : List ℤ). length xs ≡ n) (first_channels c k n ys) (channel_samples k c n ys)
     (equal-first_channels c k n ys) (length-channel_samples k c n ys)
+
+-- a channel among the first ones
+pub first_channels-get_or : (count k n c : ℕ) (ys : List ℤ) → c < count → get_or (first_channels count k n ys) c [] ≡ channel_samples k c n ys
+first_channels-get_or zero k n c ys below = absurd (omega (arith, below))
+first_channels-get_or (suc count) k n c ys below =
+    let whole = length-first_channels count k n ys in
+    elim (cases_lt c count) [
+      | inl earlier ↦
+          get_or_append_left (first_channels count k n ys) (channel_samples k count n ys ∷ []) [] c (omega (arith, whole, earlier))
+          ∙ first_channels-get_or count k n c ys earlier
+      | inr from ↦
+          let last : c ≡ count = omega (arith, below, from) in
+          get_or_push (first_channels count k n ys) (channel_samples k count n ys) [] c (omega (arith, whole, last))
+          ∙ ap (λ (m : ℕ). channel_samples k m n ys) (sym last)
+    ]
 
 -- what holds of all samples holds of those of a channel
 pub All-channel_samples : (P : ℤ → Type 0) (k c m n : ℕ) (ys : List ℤ) → m ≤ n → c < k → length ys ≡ k * n → All P ys

@@ -1,21 +1,20 @@
--- Samples copied out of a wave's bytes.
-use Rattle.std.proofs.Common.{◌≡◌, ◌-◌, ◌*◌, ◌/◌, ℕ, Bool, true, false, cond, ltb, List, [], ◌∷◌, length, suc, refl, subst, ap, ◌∙◌, sym, arith}
+-- The samples that a wave's bytes hold.
+use Rattle.std.proofs.Common.{◌≡◌, ◌≢◌, ◌-◌, ◌*◌, ◌/◌, ℕ, Bool, true, false, cond, ltb, List, [], ◌∷◌, length, suc, inl, inr, refl, subst, ap, ◌∙◌, sym, arith}
 use Rattle.std.specs.Prelude.{ℤ, pos, negsuc, All, codes, flat_map}
 use Rattle.std.specs.Int.{w16, cast_signed, from_le_bytes}
 use mir.Val.{sel}
 use Rattle.std.proofs.Math.Nat.{mul-div_cancel_left}
-use Rattle.std.proofs.lemmas.List.Elements.{All-get_or}
-use Rattle.lib_base.specs.Sounds.{IsSound, IsSample, part, samples_of}
-use Rattle.lib_base.specs.declared.files.Span.{Span}
+use Rattle.lib_base.specs.Sounds.{IsSound, IsSample, part}
 use Rattle.file_model.specs.Channels.{first_channels}
 use Rattle.file_model.specs.Chunks.{Placed}
 use Rattle.file_model.specs.Pcm.{Pcm, interleaved}
 use Rattle.file_model.specs.Samples.{sample_in, samples_in, number_in}
 use Rattle.file_model.specs.Wave.{sample_bytes}
 use Rattle.file_model.proofs.Interleaving.{channels-interleaved, length-interleaved}
-use Rattle.file_model.proofs.Samples.{IsDepth, samples_in-bytes, length-bytes, All-interleaved}
+use Rattle.file_model.proofs.Samples.{IsDepth, samples_in-bytes, length-samples_in, length-bytes, All-interleaved}
 use Rattle.file_model.proofs.Waves.{chunks_of_wave, one_placed, size_positive}
 use Rattle.wave_chunks.specs.Answers.{IsReadOf}
+use Rattle.wave_chunks.specs.Held.{channels_held, samples_held}
 use Rattle.wave_chunks.specs.Shape.{Shape}
 use Rattle.wave_chunks.specs.Spans.{HasOne}
 use Rattle.wave_chunks.proofs.Locating.{lies}
@@ -76,27 +75,42 @@ channels_copied sound items channels frames equal channels_is frames_is items_is
     ∙ ap (λ (ys : List ℤ). first_channels (length sound.lists) (length sound.lists) sound.frames ys) items_is
     ∙ channels-interleaved sound.frames sound.lists equal
 
-pub length_copied : (sound : Pcm) (items : List ℤ) (channels frames : ℕ) → channels ≡ length sound.lists → frames ≡ sound.frames
-    → items ≡ interleaved sound.frames sound.lists → length items ≡ channels * frames
-length_copied sound items channels frames channels_is frames_is items_is =
-    ap length items_is ∙ length-interleaved sound.frames sound.lists ∙ ap (λ (k : ℕ). k * sound.frames) (sym channels_is)
-    ∙ ap (λ (n : ℕ). channels * n) (sym frames_is)
+-- the channels in the bytes there are those of the wave
+pub held_is : (bytes content : List ℕ) (wave : Shape) (read : IsReadOf bytes wave) (depth channels frames : ℕ)
+    → content ≡ part bytes wave.samples.start (wave.samples.end - wave.samples.start) → depth ≡ wave.depth → channels ≡ wave.channels
+    → frames ≡ wave.frames → channels_held depth channels frames content ≡ read.sound.lists
+held_is bytes content wave read depth channels frames is depth_is channels_is frames_is =
+    channels_copied read.sound (samples_held depth content) channels frames read.reads.is_sound.equal (channels_is ∙ read.channels)
+    (frames_is ∙ read.frames) (samples_copied bytes content wave read (samples_held depth content) depth is depth_is refl)
 
--- the first channel has as many samples as there are frames
-pub frames_copied : (sound : Pcm) (lists : List (List ℤ)) → IsSound sound.lists sound.depth sound.frames → lists ≡ sound.lists
-    → length (samples_of lists 0) ≡ sound.frames
-frames_copied sound lists is_sound lists_is =
-    ap (λ (xss : List (List ℤ)). length (samples_of xss 0)) lists_is
-    ∙ All-get_or (λ (xs : List ℤ). length xs ≡ sound.frames) sound.lists 0 [] (let some = is_sound.has_channel in omega (arith, some)) is_sound.equal
+-- they are as many samples as all channels have
+pub held_whole : (bytes content : List ℕ) (wave : Shape) (read : IsReadOf bytes wave) (depth channels frames : ℕ)
+    → content ≡ part bytes wave.samples.start (wave.samples.end - wave.samples.start) → depth ≡ wave.depth → channels ≡ wave.channels
+    → frames ≡ wave.frames → length content / (depth / 8) ≡ channels * frames
+held_whole bytes content wave read depth channels frames is depth_is channels_is frames_is =
+    let sound = read.sound in
+    sym (length-samples_in depth (length content / (depth / 8)) content)
+    ∙ ap length (samples_copied bytes content wave read (samples_held depth content) depth is depth_is refl)
+    ∙ length-interleaved sound.frames sound.lists
+    ∙ ap (λ (k : ℕ). k * sound.frames) (sym (channels_is ∙ read.channels))
+    ∙ ap (λ (n : ℕ). channels * n) (sym (frames_is ∙ read.frames))
 
--- the copied channels are a sound
-pub sound_copied : (sound : Pcm) (lists : List (List ℤ)) (depth : ℕ) → IsSound sound.lists sound.depth sound.frames → lists ≡ sound.lists
-    → depth ≡ sound.depth → IsSound lists depth (length (samples_of lists 0))
-sound_copied sound lists depth is_sound lists_is depth_is =
+-- they are a sound
+pub held_sound : (bytes content : List ℕ) (wave : Shape) (read : IsReadOf bytes wave) (depth channels frames : ℕ)
+    → content ≡ part bytes wave.samples.start (wave.samples.end - wave.samples.start) → depth ≡ wave.depth → channels ≡ wave.channels
+    → frames ≡ wave.frames → IsSound (channels_held depth channels frames content) depth frames
+held_sound bytes content wave read depth channels frames is depth_is channels_is frames_is =
+    let sound = read.sound in
     let OfFrames : ℕ → Type 0 = λ n. IsSound sound.lists sound.depth n in
-    let OfDepth : ℕ → Type 0 = λ d. IsSound sound.lists d (length (samples_of lists 0)) in
-    let OfLists : List (List ℤ) → Type 0 = λ xss. IsSound xss depth (length (samples_of lists 0)) in
-    subst OfLists (sym lists_is) (subst OfDepth (sym depth_is) (subst OfFrames (sym (frames_copied sound lists is_sound lists_is)) is_sound))
+    let OfDepth : ℕ → Type 0 = λ d. IsSound sound.lists d frames in
+    let OfLists : List (List ℤ) → Type 0 = λ xss. IsSound xss depth frames in
+    subst OfLists (sym (held_is bytes content wave read depth channels frames is depth_is channels_is frames_is))
+    (subst OfDepth (sym (depth_is ∙ read.depth)) (subst OfFrames (sym (frames_is ∙ read.frames)) read.reads.is_sound))
+
+-- a depth other than 16 is 24
+pub known_depth : (depth : ℕ) → IsDepth depth → depth ≢ 16 → depth ≡ 24
+known_depth depth (inl sixteen) other = absurd (other sixteen)
+known_depth depth (inr more) other = more
 
 -- ---- one sample
 
@@ -114,33 +128,3 @@ pub sample_of_two : (pair : List ℕ) → length pair ≡ 2 → cast_signed w16 
 sample_of_two pair two =
     ap (cast_signed w16) (two_number pair two)
     ∙ selected (ltb (number_in pair) 32768) (pos (number_in pair)) (negsuc (65536 - suc (number_in pair)))
-
--- what was copied on the way to a sound
-pub record Copied (bytes : List ℕ) (wave : Shape) (span : Span) (content : List ℕ) (depth channels frames : ℕ) (items slice : List ℤ) : Type 0 where
-  pub span_is : span ≡ wave.samples
-  pub content_is : content ≡ part bytes span.start (span.end - span.start)
-  pub depth_is : depth ≡ wave.depth
-  pub channels_is : channels ≡ wave.channels
-  pub frames_is : frames ≡ wave.frames
-  pub items_are : items ≡ samples_in depth (length content / (depth / 8)) content
-  pub slice_is : slice ≡ items
-
-copied_samples : (bytes : List ℕ) (wave : Shape) (span : Span) (content : List ℕ) (depth channels frames : ℕ) (items slice : List ℤ)
-    (read : IsReadOf bytes wave) → Copied bytes wave span content depth channels frames items slice → slice ≡ interleaved read.sound.frames read.sound.lists
-copied_samples bytes wave span content depth channels frames items slice read copied =
-    copied.slice_is
-    ∙ samples_copied bytes content wave read items depth
-    (copied.content_is ∙ ap (λ (s : Span). part bytes s.start (s.end - s.start)) copied.span_is) copied.depth_is copied.items_are
-
-pub copied_length : (bytes : List ℕ) (wave : Shape) (span : Span) (content : List ℕ) (depth channels frames : ℕ) (items slice : List ℤ)
-    → IsReadOf bytes wave → Copied bytes wave span content depth channels frames items slice → length slice ≡ channels * frames
-copied_length bytes wave span content depth channels frames items slice read copied =
-    length_copied read.sound slice channels frames (copied.channels_is ∙ read.channels) (copied.frames_is ∙ read.frames)
-    (copied_samples bytes wave span content depth channels frames items slice read copied)
-
-pub copied_lists : (bytes : List ℕ) (wave : Shape) (span : Span) (content : List ℕ) (depth channels frames : ℕ) (items slice : List ℤ)
-    (read : IsReadOf bytes wave) → Copied bytes wave span content depth channels frames items slice
-    → first_channels channels channels frames slice ≡ read.sound.lists
-copied_lists bytes wave span content depth channels frames items slice read copied =
-    channels_copied read.sound slice channels frames read.reads.is_sound.equal (copied.channels_is ∙ read.channels) (copied.frames_is ∙ read.frames)
-    (copied_samples bytes wave span content depth channels frames items slice read copied)

@@ -1,5 +1,6 @@
 pub mod Answers
 pub mod Formats
+pub mod Held
 pub mod Shape
 pub mod Spans
 pub use Rattle.file_model.specs.Channels

@@ -161,10 +161,13 @@ fn each_layout_is_read(rt: HostRuntime) -> Result<(), Fail> {
     Ok(())
 }
 
+/// A sound over a file is a few numbers beside its bytes, and holds no sample.
+const _: () = prove!(size_of::<WaveSound<'static>>() == 40);
+
 #[test]
-fn samples_are_copied(rt: HostRuntime) -> Result<(), Fail> {
+fn samples_are_read(rt: HostRuntime) -> Result<(), Fail> {
     let wave = read(rt.alloc(), SIX.as_slice())?;
-    let sound = pcm(rt.alloc(), SIX.as_slice(), &wave)?;
+    let sound = WaveSound::over(SIX.as_slice(), &wave);
     assert_eq!(rt;
         (sound.channels(), sound.depth(), sound.frames()),
         (6, 24, 1)
@@ -177,7 +180,7 @@ fn samples_are_copied(rt: HostRuntime) -> Result<(), Fail> {
         assert_eq!(rt; out[0], samples[channel], "channel {channel}");
     }
     let mono = read(rt.alloc(), MONO.as_slice())?;
-    let sound = pcm(rt.alloc(), MONO.as_slice(), &mono)?;
+    let sound = WaveSound::over(MONO.as_slice(), &mono);
     assert_eq!(rt;
         (sound.channels(), sound.depth(), sound.frames()),
         (1, 16, 2)
