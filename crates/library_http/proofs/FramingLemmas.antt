@@ -9,10 +9,9 @@ use Rattle.httparse.specs.declared.spans.RequestSpans.{RequestSpans}
 use Rattle.httparse.specs.Grammar.{RequestHead, ReadsRequest, print_request}
 use Rattle.httparse.specs.Spans.{IsRequestOf, header_bytes, name_and_value, span_bytes}
 use Rattle.httparse.proofs.GrammarLemmas.{request_unique}
-use Rattle.library_model.specs.declared.messages.Question.{Question}
 use Rattle.library_model.specs.Asked.{Asked, change, question}
 use Rattle.library_model.specs.Framing.{Begins, BeginsImport, BeginsQuestion, BeginNoRequest, IsHeadWithin, body_length, only_length, values_of}
-use Rattle.library_http.specs.Framed.{HasImport, HasRequest, BeginsNoImport, IsQuestionIn, HasNoQuestionIn}
+use Rattle.library_http.specs.Framed.{HasImport, BeginsNoImport, HasNoQuestionIn}
 
 -- an import of the file has this head, and what follows the head is the file and the rest
 pub record IsImportHead (bytes : List ℕ) (headers : List HeaderSpan) (r : RequestSpans) (file rest : List ℕ) : Type 0 where
@@ -77,29 +76,6 @@ HasImport-found bytes headers r size found short few method path written inside 
         target = sym at.path ∙ path;
         body = ap length_in (sym at.fields) ∙ written ∙ ap Some (sym long);
       };
-    }
-
--- A head of a question is a question.
-pub HasRequest-question : (bytes : List ℕ) (headers : List HeaderSpan) (r : RequestSpans) (asked : Question)
-    → IsRequestOf bytes headers r → r.len ≤ 8192 → length headers ≤ 32 → r.len ≤ length bytes
-    → IsQuestionIn (span_bytes bytes r.method) (span_bytes bytes r.path) asked → HasRequest bytes (question asked) r.len
-HasRequest-question bytes headers r asked found short few inside x =
-    let at = found.1 in
-    let fields : length found.0.fields ≤ length headers = fields_few bytes headers r found in
-    record {
-      in_range = inside;
-      begins = (
-        x.0,
-        x.4,
-        record {
-          head = found.0;
-          reads = at.reads;
-          within = (omega (arith, at.len), omega arith);
-          method = sym at.method ∙ x.1;
-          target = sym at.path ∙ x.2;
-          piece = x.3;
-        },
-      );
     }
 
 -- A question that begins the bytes has the head that the parser found.
