@@ -1,7 +1,10 @@
 pub mod Interleaving
 pub mod Makes
+pub mod Pairings
+pub mod Predictions
 pub mod Readings
 pub mod Rows
 pub mod Samples
 pub mod Spellings
 pub mod Waves
+pub mod WorkedPredictions
