@@ -1,8 +1,11 @@
 pub mod Interleaving
 pub mod Makes
+pub mod Pairings
+pub mod Predictions
 pub mod Readings
 pub mod Rows
 pub mod Samples
 pub mod Spellings
 pub mod Waves
 mod WorkedFields
+pub mod WorkedPredictions

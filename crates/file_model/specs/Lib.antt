@@ -1,7 +1,9 @@
 pub mod Channels
 pub mod Chunks
 pub mod Format
+pub mod Pairs
 pub mod Pcm
+pub mod Predict
 pub mod Reading
 pub mod Rules
 pub mod Samples

@@ -6,7 +6,9 @@
 //! definitions and code share: of the rules, and of the places of fields.
 #![tactic(auto)]
 
+mod pairs;
 pub mod wave_fields;
 mod wave_rules;
 
+pub use pairs::Stereo;
 pub use wave_rules::WaveRule;
