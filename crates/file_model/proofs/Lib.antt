@@ -5,3 +5,4 @@ pub mod Rows
 pub mod Samples
 pub mod Spellings
 pub mod Waves
+mod WorkedBits

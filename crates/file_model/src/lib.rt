@@ -4,3 +4,7 @@
 //! its samples, or broken by a rule at a place. `proofs/` checks worked files against the
 //! definitions, and shows that a file reads as one thing only.
 #![tactic(auto)]
+
+mod bits;
+
+pub use bits::BitFault;
