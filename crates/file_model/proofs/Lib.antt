@@ -5,4 +5,5 @@ pub mod Rows
 pub mod Samples
 pub mod Spellings
 pub mod Waves
+mod WorkedBits
 mod WorkedFields

@@ -1,6 +1,10 @@
+pub mod Bits
 pub mod Channels
 pub mod Chunks
+pub mod Crc
+pub mod Fields
 pub mod Format
+pub mod Outcomes
 pub mod Pcm
 pub mod Reading
 pub mod Rules

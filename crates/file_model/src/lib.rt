@@ -6,7 +6,9 @@
 //! and code share: of the rules, and of the places of fields.
 #![tactic(auto)]
 
+mod bits;
 pub mod wave_fields;
 mod wave_rules;
 
+pub use bits::BitFault;
 pub use wave_rules::WaveRule;
