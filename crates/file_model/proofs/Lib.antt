@@ -1,5 +1,7 @@
 pub mod Interleaving
 pub mod Makes
+pub mod Pairings
+pub mod Predictions
 pub mod Readings
 pub mod Rows
 pub mod Samples
@@ -7,3 +9,4 @@ pub mod Spellings
 pub mod Waves
 mod WorkedBits
 mod WorkedFields
+pub mod WorkedPredictions

@@ -7,8 +7,10 @@
 #![tactic(auto)]
 
 mod bits;
+mod pairs;
 pub mod wave_fields;
 mod wave_rules;
 
 pub use bits::BitFault;
+pub use pairs::Stereo;
 pub use wave_rules::WaveRule;
