@@ -3,6 +3,9 @@ pub mod Channels
 pub mod Chunks
 pub mod Crc
 pub mod Fields
+pub mod FlacFrame
+pub mod FlacHeader
+pub mod FlacRules
 pub mod Format
 pub mod Outcomes
 pub mod Pairs
@@ -11,4 +14,5 @@ pub mod Predict
 pub mod Reading
 pub mod Rules
 pub mod Samples
+pub mod Subframe
 pub mod Wave

@@ -7,10 +7,14 @@
 #![tactic(auto)]
 
 mod bits;
+mod flac_info;
+mod flac_rules;
 mod pairs;
 pub mod wave_fields;
 mod wave_rules;
 
 pub use bits::BitFault;
+pub use flac_info::Info;
+pub use flac_rules::FlacRule;
 pub use pairs::Stereo;
 pub use wave_rules::WaveRule;
