@@ -86,11 +86,11 @@ SpellsPair-take kind left right first second depth place spells = record {
 pub LeavesPair_none : (kind : Stereo) (left right first second : List ℤ) (depth place : ℕ) → LeavesPair kind depth first second place
     → ¬ SpellsPair kind depth left right first second
 LeavesPair_none kind left right first second depth place leaves spells =
-    let same = IsPair_unique kind (at left place) (at right place) leaves.left leaves.right (at first place) (at second place)
-    (spells.pairs place leaves.inside) leaves.pair in
+    let same = IsPair_unique kind (at left place) (at right place) leaves.here.left leaves.here.right (at first place) (at second place)
+    (spells.pairs place leaves.inside) leaves.here.pair in
     let in_left : place < length left = omega (arith, leaves.inside, spells.as_many_left) in
     let in_right : place < length right = omega (arith, leaves.inside, spells.as_many_right) in
-    leaves.outside (
+    leaves.here.outside (
       subst (IsSample depth) same.0 (All-get_or (IsSample depth) left place (pos 0) in_left spells.left_within),
       subst (IsSample depth) same.1 (All-get_or (IsSample depth) right place (pos 0) in_right spells.right_within),
     )

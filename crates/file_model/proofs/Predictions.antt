@@ -73,7 +73,7 @@ Spells_unique weights xs ys coded shift depth one other =
     get_or_default xs k d (pos 0) inside ∙ same k here ∙ get_or_default ys k (pos 0) d (omega (arith, here, other.as_many)))
 
 -- the samples before a place, cut there, are the same
-same_taken : (xs : List ℤ) (place limit : ℕ) → place ≤ limit → SameBefore (take limit xs) xs place
+pub same_taken : (xs : List ℤ) (place limit : ℕ) → place ≤ limit → SameBefore (take limit xs) xs place
 same_taken xs place limit order = λ before less. get_or-take limit xs before (pos 0) (omega (arith, less, order))
 
 pub length_same-take : (xs ys : List ℤ) (n : ℕ) → length xs ≡ length ys → length (take n xs) ≡ length (take n ys)

@@ -52,13 +52,17 @@ pub record SpellsPair (kind : Stereo) (depth : ℕ) (left right first second : L
   pub left_within : All (IsSample depth) left
   pub right_within : All (IsSample depth) right
 
--- What stands before a place spells samples within the depth, and the two that stand at the place are for samples that are not both within it.
+-- two numbers stand for a left and a right sample that are not both within the depth
+pub record IsPairOutside (kind : Stereo) (depth : ℕ) (first second : ℤ) : Type 0 where
+  pub left : ℤ
+  pub right : ℤ
+  pub pair : IsPair kind left right first second
+  pub outside : ¬ (IsSample depth left × IsSample depth right)
+
+-- What stands before a place spells samples, and the two numbers at the place are for samples that are not both within the depth.
 pub record LeavesPair (kind : Stereo) (depth : ℕ) (first second : List ℤ) (place : ℕ) : Type 0 where
   pub left_before : List ℤ
   pub right_before : List ℤ
   pub inside : place < length first
   pub spelled : SpellsPair kind depth left_before right_before (take place first) (take place second)
-  pub left : ℤ
-  pub right : ℤ
-  pub pair : IsPair kind left right (at first place) (at second place)
-  pub outside : ¬ (IsSample depth left × IsSample depth right)
+  pub here : IsPairOutside kind depth (at first place) (at second place)
