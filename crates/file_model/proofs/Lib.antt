@@ -7,5 +7,6 @@ pub mod Rows
 pub mod Samples
 pub mod Spellings
 pub mod Waves
+mod WorkedBits
 mod WorkedFields
 pub mod WorkedPredictions

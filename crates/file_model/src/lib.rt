@@ -6,9 +6,15 @@
 //! definitions and code share: of the rules, and of the places of fields.
 #![tactic(auto)]
 
+mod bits;
+mod flac_info;
+mod flac_rules;
 mod pairs;
 pub mod wave_fields;
 mod wave_rules;
 
+pub use bits::BitFault;
+pub use flac_info::Info;
+pub use flac_rules::FlacRule;
 pub use pairs::Stereo;
 pub use wave_rules::WaveRule;
