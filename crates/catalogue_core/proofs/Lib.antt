@@ -1,6 +1,5 @@
 pub mod Changing
 pub mod Deciding
 pub mod FoundRows
-pub mod Greatest
 pub mod Lengths
 pub mod Texts

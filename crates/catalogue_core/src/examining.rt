@@ -6,7 +6,8 @@ ghost use Rattle.wave_chunks.specs.Answers.{IsReadOf};
 ghost use Rattle.catalogue_core.specs.Examining.{IsFound, IsMeasureOf};
 
 use crate::measures::Measure;
-use crate::summaries::summarise;
+use album_merge::summarise;
+use gate_blocks::{blocks, windows};
 use lib_base::{Broken, Memory, Refused, Sound};
 use std::alloc::Global;
 use wave_chunks::Wave;
@@ -48,7 +49,15 @@ fn measure_sound<S: Sound>(alloc: Global, sound: &S) -> Result<Measure, Memory>
 {
     let energies = measure_pool::energies(alloc, sound)?;
     let peak = measure_pool::peak(alloc, sound)?;
-    let summary = summarise(alloc, sound.frames(), energies.as_slice(), peak)?;
+    let blocks = blocks(alloc, energies.as_slice())?;
+    let windows = windows(alloc, energies.as_slice())?;
+    let summary = summarise(
+        alloc,
+        sound.frames(),
+        blocks.as_slice(),
+        windows.as_slice(),
+        peak,
+    )?;
     Ok(Measure {
         channels: sound.channels() as u8,
         depth: sound.depth() as u8,

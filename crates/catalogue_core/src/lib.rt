@@ -18,7 +18,6 @@ mod opening;
 mod prepared;
 mod reply_texts;
 mod staging;
-mod summaries;
 #[cfg(test)]
 mod tests;
 

@@ -4,6 +4,7 @@ use Rattle.lib_base.specs.declared.outcomes.Rule.{Rule}
 use Rattle.lib_base.specs.declared.files.Summary.{Summary}
 use Rattle.file_model.specs.Pcm.{Pcm}
 use Rattle.file_model.specs.Reading.{Reads, accepted, broken}
+use Rattle.sound_model.specs.Blocks.{blocks_of, windows_of}
 use Rattle.sound_model.specs.Peaks.{peak_of}
 use Rattle.sound_model.specs.Segments.{energies}
 use Rattle.sound_model.specs.Summaries.{Summarises}
@@ -14,7 +15,9 @@ energies_of sound = energies sound.depth sound.frames sound.lists
 
 -- the levels of a sound: those of its energies and of its peak
 abbrev pub IsSummaryOf : Pcm → Summary → Type 0
-IsSummaryOf sound summary = Summarises sound.frames (energies_of sound) (peak_of sound.depth sound.frames sound.lists) summary
+IsSummaryOf sound summary =
+    Summarises sound.frames (blocks_of (energies_of sound)) (windows_of (energies_of sound))
+    (peak_of sound.depth sound.frames sound.lists) summary
 
 -- a file is measured, as a sound with its levels, or broken by a rule at a place
 pub data Finding : Type 0 where

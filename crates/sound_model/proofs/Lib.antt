@@ -1,4 +1,5 @@
 mod GateRows
+pub mod Greatest
 pub mod LevelLaws
 pub mod LevelTable
 pub mod PeakRows

@@ -1,13 +1,12 @@
 -- What is measured of a sound, and the levels that follow from it (BS.1770-4, EBU R 128, Tech 3341 and 3342, ReplayGain 2.0).
-use Rattle.std.specs.Prelude.{◌≡◌, ◌^◌, ℕ, ℤ, neg_ℤ, pos, ◌-ℤ◌, List, length, option_map}
+use Rattle.std.specs.Prelude.{◌≡◌, ◌≤◌, ◌*◌, ◌/◌, ◌^◌, ℕ, ℤ, neg_ℤ, pos, ◌-ℤ◌, List, length, All, option_map}
 use Rattle.lib_base.specs.declared.files.Measured.{Measured}
 use Rattle.lib_base.specs.declared.files.Summary.{Summary}
-use Rattle.sound_model.specs.Blocks.{blocks_of, windows_of}
 use Rattle.sound_model.specs.Levels.{IsLevel, hundredths}
 use Rattle.sound_model.specs.Loudness.{IfThere, IsBlockLevel, IsWindowLevel, IsLoudness, above_zero, greatest}
 use Rattle.sound_model.specs.Peaks.{peak_of}
 use Rattle.sound_model.specs.Ranges.{IsRange}
-use Rattle.sound_model.specs.Segments.{energies}
+use Rattle.sound_model.specs.Segments.{energies, greatest_energy}
 
 -- what is measured of a sound: the weighted energies of its segments, and its peak
 abbrev pub measured : ℕ → ℕ → List (List ℤ) → Measured
@@ -19,6 +18,21 @@ measured depth frames lists = record {
   peak = peak_of depth frames lists;
 }
 
+-- the most frames that a file within the body limit can hold: one channel of 16 bits in 2^28 bytes
+abbrev pub most_frames : ℕ
+most_frames = 134217728
+
+-- the greatest peak: the heaviest phase over samples at full scale, which have its signs
+abbrev pub greatest_peak : ℕ
+greatest_peak = 16571 * 2 ^ 23
+
+-- What is measured is within the bounds: of frames, of an energy for each whole segment, and of the peak.
+pub record IsWithinBounds (m : Measured) : Type 0 where
+  pub frames : m.frames ≤ most_frames
+  pub count : length m.energies ≡ m.frames / 4800
+  pub energies : All (λ e. e ≤ greatest_energy) m.energies
+  pub peak : m.peak ≤ greatest_peak
+
 -- the true peak level of a peak, in hundredths of dBTP
 pub record IsPeakLevel (peak : ℕ) (true_peak : ℤ) : Type 0 where
   pub level : ℤ
@@ -29,13 +43,13 @@ pub record IsPeakLevel (peak : ℕ) (true_peak : ℤ) : Type 0 where
 abbrev pub gain_of : ℤ → ℤ
 gain_of loudness = neg_ℤ (pos 1800) -ℤ loudness
 
--- The levels of so many frames with these energies and this peak. What can't be measured is absent.
-pub record Summarises (frames : ℕ) (segments : List ℕ) (peak : ℕ) (summary : Summary) : Type 0 where
+-- The levels of so many frames with the energies of these blocks and windows and this peak. What can't be measured is absent.
+pub record Summarises (frames : ℕ) (blocks windows : List ℕ) (peak : ℕ) (summary : Summary) : Type 0 where
   pub frames_kept : summary.frames ≡ frames
-  pub loudness : IsLoudness (blocks_of segments) summary.loudness
-  pub range : IsRange (windows_of segments) summary.range
-  pub momentary : IfThere IsBlockLevel (above_zero (greatest (blocks_of segments))) summary.momentary
-  pub short_term : IfThere IsWindowLevel (above_zero (greatest (windows_of segments))) summary.short_term
+  pub loudness : IsLoudness blocks summary.loudness
+  pub range : IsRange windows summary.range
+  pub momentary : IfThere IsBlockLevel (above_zero (greatest blocks)) summary.momentary
+  pub short_term : IfThere IsWindowLevel (above_zero (greatest windows)) summary.short_term
   pub true_peak : IfThere IsPeakLevel (above_zero peak) summary.true_peak
   pub peak_kept : summary.peak ≡ peak
   pub gain : summary.gain ≡ option_map gain_of summary.loudness

@@ -1,8 +1,8 @@
-//! The levels that follow from what is measured.
-ghost use Rattle.std.specs.Prelude.{◌≡◌, ◌≤◌, ◌*◌, ◌^◌, ℕ, length, unsigned_abs, All, option_map, IfOk, IfSome};
-ghost use Rattle.gate_blocks.specs.Bounds.{AreSegments};
+//! The levels that follow from blocks, windows and a peak.
+ghost use Rattle.std.specs.Prelude.{◌≡◌, ◌≤◌, ◌^◌, ℕ, unsigned_abs, All, option_map, IfOk, IfSome};
+ghost use Rattle.gate_blocks.specs.Bounds.{AreBlocks, AreWindows};
 ghost use Rattle.sound_model.specs.Loudness as model;
-ghost use Rattle.sound_model.specs.Summaries.{Summarises, IsPeakLevel, gain_of};
+ghost use Rattle.sound_model.specs.Summaries.{Summarises, IsPeakLevel, gain_of, greatest_peak};
 
 use db_table::{hundredths, level};
 use gate_blocks::{block_level, window_level};
@@ -12,28 +12,28 @@ use std::alloc::Global;
 /// The loudness to which a gain brings a recording, in hundredths of LUFS (ReplayGain 2.0).
 const REFERENCE: i32 = -1800;
 
-/// The levels of so many frames with these energies of segments and this peak. What can't be
-/// measured is absent.
+/// The levels of so many frames with the energies of these blocks and windows, and this peak in
+/// units of 2^-36 of full scale (BS.1770-4, EBU R 128, Tech 3341 and 3342, ReplayGain 2.0). What
+/// can't be measured is absent.
 pub fn summarise(
     alloc: Global,
     frames: u64,
-    segments: &[u128],
+    blocks: &[u128],
+    windows: &[u128],
     peak: u64,
 ) -> Result<Summary, Memory>
-    requires segments { AreSegments segments.now }
-    requires few { length segments.now ≤ 2 ^ 25 }
-    requires peak { peak ≤ 16571 * 2 ^ 23 }
-    ensures { IfOk result (Summarises frames segments.now peak) }
+    requires blocks { AreBlocks blocks.now }
+    requires windows { AreWindows windows.now }
+    requires peak { peak ≤ greatest_peak }
+    ensures { IfOk result (Summarises frames blocks.now windows.now peak) }
 {
-    let blocks = gate_blocks::blocks(alloc, segments)?;
-    let windows = gate_blocks::windows(alloc, segments)?;
-    let loudness = gate_blocks::loudness(blocks.as_slice());
+    let loudness = gate_blocks::loudness(blocks);
     Ok(Summary {
         frames,
         loudness,
-        range: loudness_range::range(alloc, windows.as_slice())?,
-        momentary: block_level(greatest(blocks.as_slice())),
-        short_term: window_level(greatest(windows.as_slice())),
+        range: loudness_range::range(alloc, windows)?,
+        momentary: block_level(greatest(blocks)),
+        short_term: window_level(greatest(windows)),
         true_peak: peak_level(peak),
         peak,
         gain: gain_for(loudness),
@@ -41,7 +41,7 @@ pub fn summarise(
 }
 
 /// The greatest of energies, and 0 where there is none.
-fn greatest(energies: &[u128]) -> u128
+pub(crate) fn greatest(energies: &[u128]) -> u128
     ensures value { result ≡ model.greatest energies.now }
     ensures within { (limit : ℕ) → All (λ e. e ≤ limit) energies.now → result ≤ limit }
 {
@@ -53,8 +53,8 @@ fn greatest(energies: &[u128]) -> u128
 }
 
 /// The true peak of a peak, absent exactly where it is 0.
-fn peak_level(peak: u64) -> Option<i32>
-    requires { peak ≤ 16571 * 2 ^ 23 }
+pub(crate) fn peak_level(peak: u64) -> Option<i32>
+    requires { peak ≤ greatest_peak }
     ensures { model.IfThere IsPeakLevel (model.above_zero peak) result }
 {
     if peak == 0 {
@@ -64,7 +64,7 @@ fn peak_level(peak: u64) -> Option<i32>
 }
 
 fn squared(peak: u64) -> u128
-    requires { peak ≤ 16571 * 2 ^ 23 }
+    requires { peak ≤ greatest_peak }
     ensures value { result ≡ peak ^ 2 }
     ensures bound { result ≤ 2 ^ 76 }
 {
@@ -73,7 +73,7 @@ fn squared(peak: u64) -> u128
 }
 
 /// The gain that brings a loudness to that of the reference.
-fn gain_for(loudness: Option<i32>) -> Option<i32>
+pub(crate) fn gain_for(loudness: Option<i32>) -> Option<i32>
     requires { IfSome loudness (λ v. unsigned_abs v ≤ 28000) }
     ensures { result ≡ option_map gain_of loudness }
 {

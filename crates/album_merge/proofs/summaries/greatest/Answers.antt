@@ -1,7 +1,7 @@
 use Rattle.std.proofs.Common.{◌≤◌, length, arith}
 use Rattle.std.proofs.lemmas.List.{take_all}
-use Rattle.catalogue_core.proofs.Greatest.{greatest-step, greatest-within}
-use Rattle.catalogue_core.proofs.summaries.greatest.Goals as goal
+use Rattle.sound_model.proofs.Greatest.{greatest-step, greatest-within}
+use Rattle.album_merge.proofs.summaries.greatest.Goals as goal
 
 pub loop-energy-preserved : goal.loop-energy-preserved
 loop-energy-preserved c =
