@@ -1,84 +1,116 @@
-//! The gates of loudness.
-ghost use Rattle.std.specs.Prelude.{◌≡◌, ◌≤◌, ◌<◌, ◌*◌, ◌^◌, ◌&&◌, ℕ, List, filter, IfSome};
-ghost use Rattle.sound_model.specs.Loudness.{is_audible, is_near, gated, mean};
+//! The gates of loudness, as steps over a count and a sum.
+ghost use Rattle.std.specs.Prelude.{◌≡◌, ◌≤◌, ◌<◌, ◌+◌, ◌*◌, ◌^◌, ◌&&◌, ◌++◌, ℕ, IsTrue, List, [], filter, length, nat_lt, All};
+ghost use Rattle.sound_model.specs.Loudness.{is_audible, is_near};
 ghost use Rattle.sound_model.specs.Segments.{greatest_energy};
 ghost use Rattle.gate_blocks.specs.Bounds.{AreBlocks, IsTallyOf};
 
 /// 10^7 times the square of full scale, 2^54, times 10^0.0691: the power that stands for 0 LUFS.
 pub(crate) const FULL_POWER: u128 = (1 << 54) * 11_724_653;
 
-/// How many energies there are, and their sum.
-#[derive(Clone, Copy)]
-struct Tally {
-    count: u128,
-    sum: u128,
+/// How many blocks passed a gate, and the sum of their energies.
+///
+/// The two passes of the gates add to one: `add_audible` what is above -70 LUFS, then `add_near`
+/// what is above the mean of that less 10 LU. Blocks of many lists are gated as those of one by
+/// adding list after list.
+#[derive(Clone, Copy, Debug)]
+pub struct Tally {
+    pub count: u64,
+    pub sum: u128,
+    ghost few: { count ≤ 2 ^ 25 },
+    ghost some_each: { count ≤ sum },
+    ghost within: { sum ≤ count * (4 * greatest_energy) },
 }
 
-/// The mean energy of the blocks that pass both gates, if there are any.
-pub(crate) fn gated_power(blocks: &[u128]) -> Option<u128>
-    requires { AreBlocks blocks.now }
-    ensures power { result ≡ mean (gated blocks.now) }
-    ensures positive { IfSome result (λ p. 0 < p) }
-    ensures within { IfSome result (λ p. p ≤ 4 * greatest_energy) }
-{
-    let kept = tally_near(blocks, tally_audible(blocks));
-    if kept.count == 0 {
-        return None;
+impl Tally {
+    /// Of no block.
+    pub fn new() -> Tally
+        ensures { IsTallyOf [] result.count result.sum }
+    {
+        Tally { count: 0, sum: 0 }
     }
-    Some(kept.sum / kept.count)
+
+    /// Adds those of the blocks that are above the absolute threshold, -70 LUFS.
+    pub fn add_audible(&mut self, blocks: &[u128])
+        requires within { All (λ z. z ≤ 4 * greatest_energy) blocks.now }
+        requires room { self.old.count + length blocks.now ≤ 2 ^ 25 }
+        ensures { (before : List ℕ) → IsTallyOf before self.old.count self.old.sum
+            → IsTallyOf (before ++ filter is_audible blocks.now) self.new.count self.new.sum }
+    {
+        *self = both(*self, audible_of(blocks));
+    }
+
+    /// Adds those of the blocks that pass both gates: above the absolute threshold, and above the
+    /// relative one, which is the mean of the blocks that `audible` counts less 10 LU.
+    pub fn add_near(&mut self, blocks: &[u128], audible: Tally)
+        requires within { All (λ z. z ≤ 4 * greatest_energy) blocks.now }
+        requires room { self.old.count + length blocks.now ≤ 2 ^ 25 }
+        ensures { (counted before : List ℕ) → IsTallyOf counted audible.count audible.sum
+            → IsTallyOf before self.old.count self.old.sum
+            → IsTallyOf (before ++ filter (is_near counted) (filter is_audible blocks.now)) self.new.count self.new.sum }
+    {
+        *self = both(*self, near_of(blocks, audible));
+    }
+}
+
+/// The tally of the blocks of two.
+fn both(one: Tally, other: Tally) -> Tally
+    requires { one.count + other.count ≤ 2 ^ 25 }
+    ensures { (xs ys : List ℕ) → IsTallyOf xs one.count one.sum → IsTallyOf ys other.count other.sum
+        → IsTallyOf (xs ++ ys) result.count result.sum }
+{
+    Tally {
+        count: one.count + other.count,
+        sum: one.sum + other.sum,
+    }
 }
 
 /// Tallies the blocks above -70 LUFS.
-fn tally_audible(blocks: &[u128]) -> Tally
+fn audible_of(blocks: &[u128]) -> Tally
     requires { AreBlocks blocks.now }
-    ensures { IsTallyOf (filter is_audible blocks.now) result.count result.sum }
+    ensures tally { IsTallyOf (filter is_audible blocks.now) result.count result.sum }
+    ensures few { result.count ≤ length blocks.now }
 {
-    let mut kept = Tally { count: 0, sum: 0 };
+    let mut count = 0;
+    let mut sum = 0;
     for energy in blocks {
         if is_audible_block(*energy) {
-            kept.count += 1;
-            kept.sum += *energy;
+            count += 1;
+            sum += *energy;
         }
     }
-    kept
+    Tally { count, sum }
 }
 
-/// Tallies those of them that are above their mean less 10 LU.
-fn tally_near(blocks: &[u128], audible: Tally) -> Tally
-    requires blocks { AreBlocks blocks.now }
-    requires audible { IsTallyOf (filter is_audible blocks.now) audible.count audible.sum }
-    ensures { IsTallyOf (gated blocks.now) result.count result.sum }
+/// Tallies those of them that are above the mean of what `audible` counts, less 10 LU.
+fn near_of(blocks: &[u128], audible: Tally) -> Tally
+    requires { AreBlocks blocks.now }
+    ensures tally { (counted : List ℕ) → IsTallyOf counted audible.count audible.sum
+        → IsTallyOf (filter (is_near counted) (filter is_audible blocks.now)) result.count result.sum }
+    ensures few { result.count ≤ length blocks.now }
 {
-    let mut kept = Tally { count: 0, sum: 0 };
+    let mut count = 0;
+    let mut sum = 0;
     for energy in blocks {
         if passes_both(*energy, audible) {
-            kept.count += 1;
-            kept.sum += *energy;
+            count += 1;
+            sum += *energy;
         }
     }
-    kept
+    Tally { count, sum }
 }
 
 fn passes_both(energy: u128, audible: Tally) -> bool
-    requires energy { energy ≤ 4 * greatest_energy }
-    requires count { audible.count ≤ 2 ^ 25 }
-    ensures { (energies : List ℕ) → IsTallyOf energies audible.count audible.sum
-        → result ≡ (is_audible energy && is_near energies energy) }
+    requires { energy ≤ 4 * greatest_energy }
+    ensures value { result ≡ (is_audible energy && nat_lt audible.sum (10 * audible.count * energy)) }
+    ensures positive { IsTrue result → 0 < energy }
 {
-    is_audible_block(energy) && is_near_block(energy, audible)
+    is_audible_block(energy) && 10 * u128::from(audible.count) * energy > audible.sum
 }
 
 fn is_audible_block(energy: u128) -> bool
     requires { energy ≤ 4 * greatest_energy }
-    ensures { result ≡ is_audible energy }
+    ensures value { result ≡ is_audible energy }
+    ensures positive { IsTrue result → 0 < energy }
 {
     1_250_000_000 * energy > 24 * FULL_POWER
-}
-
-fn is_near_block(energy: u128, audible: Tally) -> bool
-    requires energy { energy ≤ 4 * greatest_energy }
-    requires count { audible.count ≤ 2 ^ 25 }
-    ensures { (energies : List ℕ) → IsTallyOf energies audible.count audible.sum → result ≡ is_near energies energy }
-{
-    10 * audible.count * energy > audible.sum
 }

@@ -1,10 +1,10 @@
 //! Loudness of blocks and windows.
-ghost use Rattle.std.specs.Prelude.{◌≤◌, ◌<◌, ◌*◌, unsigned_abs, IfSome};
-ghost use Rattle.sound_model.specs.Loudness.{IsLoudness, IfThere, IsBlockLevel, IsWindowLevel, above_zero};
+ghost use Rattle.std.specs.Prelude.{◌≤◌, ◌<◌, ◌*◌, ℕ, List, unsigned_abs, IfSome};
+ghost use Rattle.sound_model.specs.Loudness.{IsLoudness, IfThere, IsBlockLevel, IsWindowLevel, above_zero, mean};
 ghost use Rattle.sound_model.specs.Segments.{greatest_energy};
-ghost use Rattle.gate_blocks.specs.Bounds.{AreBlocks};
+ghost use Rattle.gate_blocks.specs.Bounds.{AreBlocks, IsTallyOf};
 
-use crate::gates::{FULL_POWER, gated_power};
+use crate::gates::{FULL_POWER, Tally};
 use db_table::{hundredths, level};
 
 /// The loudness of blocks, in hundredths of LUFS: that of the mean of those that pass both gates,
@@ -14,7 +14,23 @@ pub fn loudness(blocks: &[u128]) -> Option<i32>
     ensures value { IsLoudness blocks.now result }
     ensures small { IfSome result (λ v. unsigned_abs v ≤ 28000) }
 {
-    gated_power(blocks).map(level_of_block)
+    let mut audible = Tally::new();
+    audible.add_audible(blocks);
+    let mut near = Tally::new();
+    near.add_near(blocks, audible);
+    tally_level(near)
+}
+
+/// The loudness of the mean of the blocks that a tally counts, rounded down, in hundredths of LUFS:
+/// absent exactly where it counts none.
+pub fn tally_level(tally: Tally) -> Option<i32>
+    ensures value { (blocks : List ℕ) → IsTallyOf blocks tally.count tally.sum → IfThere IsBlockLevel (mean blocks) result }
+    ensures small { IfSome result (λ v. unsigned_abs v ≤ 28000) }
+{
+    if tally.count == 0 {
+        return None;
+    }
+    Some(level_of_block(tally.sum / u128::from(tally.count)))
 }
 
 /// The loudness of one block's energy, in hundredths of LUFS, absent exactly where the energy is 0.

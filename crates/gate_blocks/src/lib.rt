@@ -14,7 +14,8 @@ mod sums;
 mod tests;
 mod weights;
 
-pub use levels::{block_level, loudness, window_level};
+pub use gates::Tally;
+pub use levels::{block_level, loudness, tally_level, window_level};
 pub use meters::SegmentMeter;
 pub use sums::{blocks, windows};
 pub use weights::{add_weighted, weight};

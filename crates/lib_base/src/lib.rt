@@ -14,6 +14,7 @@ mod plans;
 mod sinks;
 mod sounds;
 mod sources;
+mod steps;
 #[cfg(test)]
 mod tests;
 mod values;
@@ -26,4 +27,5 @@ pub use plans::FaultPlan;
 pub use sinks::{MemSink, Sink, write_all};
 pub use sounds::{PIECE, PcmSound, Scratch, Sound};
 pub use sources::{MemSource, ReadEnd, Source, Taken, read_up_to};
+pub use steps::Steps;
 pub use values::{Bytes, Cells, Energies, Text};

@@ -1,3 +1,4 @@
+pub mod AlbumLaws
 pub mod EnergyBounds
 mod GateRows
 pub mod Greatest
@@ -7,6 +8,7 @@ pub mod MeasuredBounds
 pub mod PeakBounds
 pub mod PeakRows
 pub mod PeakStretches
+pub mod PlaceLaws
 pub mod RangeLaws
 pub mod SummaryLaws
 pub mod WeightedRows

@@ -1,3 +1,4 @@
+pub mod Albums
 pub mod Blocks
 pub mod Levels
 pub mod Loudness

@@ -3,11 +3,12 @@ use Rattle.std.specs.Prelude.{filter}
 use Rattle.sound_model.specs.Loudness.{is_audible}
 use Rattle.sound_model.specs.Segments.{greatest_energy}
 use Rattle.gate_blocks.specs.Bounds.{IsTallyOf}
-use Rattle.gate_blocks.proofs.gates.tally_audible.Given as goal
+use Rattle.gate_blocks.proofs.gates.audible_of.Given as goal
 
 abbrev pub invariant-loop-energy : goal.invariant-loop-energy
 invariant-loop-energy l = record {
-  tally : IsTallyOf (filter is_audible (take l.energy-index l.blocks)) l.kept.count l.kept.sum;
-  few : l.kept.count ≤ l.energy-index;
-  small : l.kept.sum ≤ l.energy-index * (4 * greatest_energy);
+  tally : IsTallyOf (filter is_audible (take l.energy-index l.blocks)) l.count l.sum;
+  few : l.count ≤ l.energy-index;
+  some_each : l.count ≤ l.sum;
+  within : l.sum ≤ l.count * (4 * greatest_energy);
 }
