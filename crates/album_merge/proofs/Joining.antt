@@ -1,6 +1,7 @@
 -- What an album's members have is what its recordings have.
-use Rattle.std.proofs.Common.{◌≡◌, ◌<◌, ℕ, zero, suc, true, false, not, List, [], ◌∷◌, map, filter, length, get_or, max, nat_lt, ◌==◌, cond, refl, sym, ap, ◌∙◌, subst, arith, Contains, All, IsPermutation}
+use Rattle.std.proofs.Common.{◌≡◌, ◌<◌, ℕ, zero, suc, true, false, not, List, [], ◌∷◌, map, filter, length, get_or, max, nat_lt, ◌==◌, cond, refl, sym, ap, ◌∙◌, subst, arith, inl, inr, ◌⊎◌, ◌≤◌, Contains, All, IsPermutation}
 use Rattle.std.specs.List.{AllZip, flat_map}
+use Rattle.std.proofs.lemmas.Bool.{cases_lt}
 use Rattle.std.proofs.lemmas.List.Elements.{All-nil, All-cons, filter-append}
 use Rattle.std.proofs.lemmas.List.Kept.{AllPairs-filter}
 use Rattle.std.proofs.lemmas.List.Sorted.{IsPermutation-refl, IsPermutation-append}
@@ -13,9 +14,9 @@ use Rattle.sound_model.specs.Ranges.{is_window_audible}
 use Rattle.sound_model.proofs.AlbumLaws.{greatest-append}
 use Rattle.album_merge.specs.declared.members.Member.{Member}
 use Rattle.album_merge.specs.Joined.{blocks_in, windows_in, frames_in, greatest_block_in, greatest_window_in, peak_in}
-use Rattle.album_merge.specs.Members.{Kept, IsAlbumOf, IsMemberOf, ids_of, member_id, recording_id, measured_of, placed, without, with_recording, without_recording}
+use Rattle.album_merge.specs.Members.{Kept, AscendBy, IsAlbumOf, IsMemberOf, IsPlaceOf, ids_of, member_id, recording_id, measured_of, placed, without, with_recording, without_recording}
 use Rattle.album_merge.specs.Tallies.{Tallied, StandsForMeasured}
-use Rattle.album_merge.proofs.Placing.{AscendBy-placed}
+use Rattle.album_merge.proofs.Placing.{AscendBy-placed, Contains-placed, without-placed, All-without, at_place}
 
 -- a number that no item's numbers contain is the number of none
 pub none_has : {A : Type 0} (number : A → ℕ) (n : ℕ) (xs : List A) → (Contains (map number xs) n → ⊥) → All (λ x. number x ≡ n → ⊥) xs
@@ -198,3 +199,45 @@ peak_joined (m ∷ ms) [] all = absurd all
 peak_joined (m ∷ ms) (r ∷ rs) all =
     let rest = peak_joined ms rs all.1 in
     ap (λ n. max n (peak_in ms)) all.0.1.summary.peak_kept ∙ ap (λ n. max r.1.peak n) rest
+
+-- past the last of those with a lesser id there is none with the id
+pub absent_past : (members : List Member) (id place : ℕ) → IsPlaceOf members id place → place ≡ length members
+    → All (λ m. member_id m ≡ id → ⊥) members
+absent_past members id place split past = λ k d within same. let less = split.below k d (omega arith) in omega (arith, less, same)
+
+-- nor where the one at its place has another
+pub absent_at : (members : List Member) (id place : ℕ) (there : Member) → AscendBy member_id members → IsPlaceOf members id place
+    → place < length members → there ≡ get_or members place there → (there.id ≡ id → ⊥) → All (λ m. member_id m ≡ id → ⊥) members
+absent_at members id place there ascend split inside is other = λ k d within same. cases k d within same (cases_lt k place) (cases_lt place k)
+  where
+    cases : (k : ℕ) (d : Member) → k < length members → member_id (get_or members k d) ≡ id → (k < place) ⊎ (place ≤ k)
+        → (place < k) ⊎ (k ≤ place) → ⊥
+    cases k d within same (inl less) after = let below = split.below k d less in omega (arith, below, same)
+    cases k d within same (inr no_less) (inl more) =
+        let above = split.above place d (omega arith) inside in
+        let later = ascend place k d more within in omega (arith, above, later, same)
+    cases k d within same (inr no_less) (inr no_more) =
+        let here : k ≡ place = omega arith in
+        let at = ap (λ (i : ℕ). member_id (get_or members i d)) here ∙ ap member_id (at_place members place there d inside is) in
+        other (sym at ∙ same)
+
+-- a member put in has its id among them
+pub has_placed : (members next : List Member) (member : Member) → next ≡ placed member_id member members
+    → Contains next member × Contains (map member_id next) member.id
+has_placed members next member is =
+    let Has : List Member → Type 0 = λ ms. Contains ms member in
+    let has = subst Has (sym is) (Contains-placed member_id member members) in
+    (has, Contains-map member_id member next has)
+
+-- put in and taken out again, the members are as they were
+pub put_back : (members between next : List Member) (member : Member) → (Contains (map member_id members) member.id → ⊥)
+    → between ≡ placed member_id member members → next ≡ without member_id member.id between → next ≡ members
+put_back members between next member fresh added left =
+    left ∙ ap (without member_id member.id) added
+    ∙ without-placed member_id member members (none_has member_id member.id members fresh)
+
+-- taken out, its id is gone
+pub gone : (members next : List Member) (id : ℕ) → next ≡ without member_id id members → Contains (map member_id next) id → ⊥
+gone members next id left has =
+    let Has : List Member → Type 0 = λ ms. Contains (map member_id ms) id in
+    has_none member_id id (without member_id id members) (All-without member_id id members) (subst Has left has)

@@ -8,7 +8,7 @@ use Rattle.std.proofs.lemmas.List.Sorted.{IsPermutation-sym, All-permutation, le
 use Rattle.sound_model.specs.Levels.{IsLevel, hundredths}
 use Rattle.sound_model.specs.Loudness.{is_audible, is_near, gated}
 use Rattle.sound_model.specs.Ranges.{IsAtPlace, IsRange, IsRangeWithin, gated_windows, is_window_audible, is_window_near, percentile_place_of}
-use Rattle.sound_model.proofs.PlaceLaws.{sum_by-filter, sum_by-filter-permutation, length-filter-permutation, IsAtPlace-from_counts}
+use Rattle.sound_model.proofs.PlaceLaws.{sum_by-filter, sum_by-filter-permutation, length-filter-permutation, IsAtPlace-from_counts, count_by-none, count_by-weaker}
 use Rattle.sound_model.proofs.RangeLaws.{IsRangeWithin-from_windows}
 use Rattle.gate_blocks.specs.Bounds.{IsTallyOf}
 
@@ -126,3 +126,16 @@ IsRange-from_places windows joined least most count low high level range moved p
         IsAtPlace-from_counts (gated_windows windows) place number
         (rw (counts_joined windows joined least (λ e. nat_lt e number) moved passes) is.less)
         (rw (counts_joined windows joined least (λ e. nat_le e number) moved passes) is.no_greater)
+
+-- none from a number on is less than it
+pub between_none : (least place : ℕ) (xs : List ℕ) → count_by (λ (e : ℕ). nat_le least e && nat_lt e least) xs ≤ place
+between_none least place xs =
+    let none = count_by-none (λ (e : ℕ). nat_le least e && nat_lt e least) xs (λ e. grind (arith, nat_tests)) in omega (arith, none)
+
+-- fewer are less than a lesser number
+pub between_fewer : (least low high place : ℕ) (xs : List ℕ) → low ≤ high → count_by (λ (e : ℕ). nat_le least e && nat_lt e high) xs ≤ place
+    → count_by (λ (e : ℕ). nat_le least e && nat_lt e low) xs ≤ place
+between_fewer least low high place xs lesser few =
+    let fewer = count_by-weaker (λ (e : ℕ). nat_le least e && nat_lt e low) (λ (e : ℕ). nat_le least e && nat_lt e high) xs
+    (λ e passes. grind (arith, nat_tests, passes, lesser)) in
+    omega (arith, fewer, few)

@@ -171,3 +171,26 @@ IsNonDecreasingBy-from_AscendBy {A} number xs ascend = λ i j d no_greater withi
         let same : i ≡ j = omega arith in
         let Below : ℕ → Type 0 = λ k. number (get_or xs i d) ≤ number (get_or xs k d) in
         subst Below same (omega arith)
+
+-- what stands at a place, whatever is said where there is no place
+pub at_place : {A : Type 0} (xs : List A) (p : ℕ) (x d : A) → p < length xs → x ≡ get_or xs p x → get_or xs p d ≡ x
+at_place [] p x d inside is = absurd (omega arith)
+at_place (y ∷ ys) zero x d inside is = sym is
+at_place (y ∷ ys) (suc p) x d inside is = at_place ys p x d (omega arith) is
+
+-- of items that ascend, one has a number
+pub only_one : {A : Type 0} (number : A → ℕ) (xs : List A) (p : ℕ) (x y : A) → AscendBy number xs → p < length xs → x ≡ get_or xs p x
+    → Contains xs y → number y ≡ number x → y ≡ x
+only_one {A} number xs p x y ascend inside is has same = at xs p has.0 ascend inside is has.1 has.2
+  where
+    at : (zs : List A) (i k : ℕ) → AscendBy number zs → i < length zs → x ≡ get_or zs i x → k < length zs → get_or zs k y ≡ y → y ≡ x
+    at [] i k ascend inside is within found = absurd (omega arith)
+    at (z ∷ zs) zero zero ascend inside is within found = sym found ∙ sym is
+    at (z ∷ zs) zero (suc k) ascend inside is within found =
+        let later = ascend 0 (suc k) y (omega arith) within in
+        let there = ap number found in let here = ap number is in absurd (omega (arith, later, there, here, same))
+    at (z ∷ zs) (suc i) zero ascend inside is within found =
+        let later = ascend 0 (suc i) x (omega arith) inside in
+        let there = ap number found in let here = ap number is in absurd (omega (arith, later, there, here, same))
+    at (z ∷ zs) (suc i) (suc k) ascend inside is within found =
+        at zs i k (AscendBy-tail number z zs ascend) (omega arith) is (omega arith) found

@@ -1,8 +1,7 @@
 -- What loops over members know: of those so far, and of one more.
-use Rattle.std.proofs.Common.{◌≡◌, ◌<◌, ◌≤◌, ◌+◌, ℕ, List, [], ◌∷◌, ◌++◌, map, length, take, get_or, max, sum_by, refl, sym, ap, ◌∙◌, arith}
+use Rattle.std.proofs.Common.{◌≡◌, ◌<◌, ◌≤◌, ◌+◌, ℕ, zero, suc, List, [], ◌∷◌, ◌++◌, map, length, take, get_or, max, sym, ap, ◌∙◌, arith}
 use Rattle.std.specs.List.{flat_map}
 use Rattle.std.proofs.lemmas.List.{take_more, flat_map_more, map-append}
-use Rattle.std.proofs.lemmas.List.Sums.{sum_by-append}
 use Rattle.sound_model.specs.Loudness.{greatest}
 use Rattle.sound_model.proofs.AlbumLaws.{greatest-append}
 
@@ -24,3 +23,9 @@ greatest_more f xs i x most next inside is was step =
     ∙ greatest-append (map f (take i xs)) (f (get_or xs i x) ∷ [])
     ∙ ap (λ y. max front (max (f y) 0)) (sym is) in
     omega (arith, more, was, step)
+
+-- the greatest is no less than one
+pub greatest_of_one : {A : Type 0} (f : A → ℕ) (xs : List A) (i : ℕ) (x : A) → i < length xs → x ≡ get_or xs i x → f x ≤ greatest (map f xs)
+greatest_of_one f [] i x inside is = absurd (omega arith)
+greatest_of_one f (y ∷ ys) zero x inside is = let same = ap f is in omega (arith, same)
+greatest_of_one f (y ∷ ys) (suc i) x inside is = let later = greatest_of_one f ys i x (omega arith) is in omega (arith, later)

@@ -42,6 +42,7 @@ impl Album {
     /// An album of no recording, with room for none.
     pub fn new(alloc: Global) -> Result<Album, Memory>
         ensures album { IfOk result (λ album. IsAlbumOf album []) }
+        ensures ids { IfOk result (λ album. ids_of album ≡ []) }
         ensures spare { IfOk result (λ album. album.spare ≡ 0) }
     {
         Ok(Album {
@@ -72,6 +73,7 @@ impl Album {
         ensures album { (recordings : List (ℕ × Measured)) (measured : Measured) → IsAlbumOf self.old recordings
             → StandsForMeasured tally measured → IsAlbumOf self.new (with_recording id measured recordings) }
         ensures ids { ids_of self.new ≡ placed (λ (n : ℕ). n) id (ids_of self.old) }
+        ensures there { Contains (ids_of self.new) id }
         ensures spare { self.new.spare + 1 ≡ self.old.spare }
     {
         self.put_in(id, tally)
@@ -88,14 +90,17 @@ impl Album {
         ensures album { (recordings : List (ℕ × Measured)) → IsAlbumOf self.old recordings
             → IsAlbumOf self.new (without_recording id recordings) }
         ensures ids { ids_of self.new ≡ without (λ (n : ℕ). n) id (ids_of self.old) }
+        ensures gone { ¬ Contains (ids_of self.new) id }
         ensures spare { IfSome result (λ _. self.new.spare ≡ self.old.spare + 1) }
+        ensures few { IfSome result (λ _. length (ids_of self.new) < most_recordings) }
     {
         self.take_out(id)
     }
 
     /// How many recordings it has.
     pub fn len(&self) -> usize
-        ensures { result ≡ length (ids_of self.now) }
+        ensures value { result ≡ length (ids_of self.now) }
+        ensures few { result ≤ most_recordings }
     {
         self.members.len()
     }
@@ -141,6 +146,7 @@ impl Album {
         ensures back { IfSome result (λ tally. self.old.members ≡ placed member_id (record { id = id; tally = tally }) self.new.members) }
         ensures members { self.new.members ≡ without member_id id self.old.members }
         ensures spare { IfSome result (λ _. self.new.spare ≡ self.old.spare + 1) }
+        ensures few { IfSome result (λ _. length (ids_of self.new) < most_recordings) }
     {
         let place = place_of(&self.members, id);
         if place == self.members.len() || self.members[place].id != id {

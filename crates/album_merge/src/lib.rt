@@ -13,6 +13,8 @@ mod members;
 mod ranges;
 mod summaries;
 mod tallies;
+#[cfg(test)]
+mod tests;
 mod trying;
 
 pub use albums::Album;

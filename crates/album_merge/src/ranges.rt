@@ -2,7 +2,7 @@
 ghost use Rattle.std.specs.Prelude.{◌≡◌, ◌<◌, ◌≤◌, ◌*◌, ◌&&◌, ℕ, List, All, filter, length, sum, count_by, nat_lt, nat_le, true, IsPermutation};
 ghost use Rattle.sound_model.specs.Ranges.{IsRange, is_window_audible};
 ghost use Rattle.album_merge.specs.Bounds.{most_segments, most_recordings};
-ghost use Rattle.album_merge.specs.Joined.{windows_in};
+ghost use Rattle.album_merge.specs.Joined.{windows_in, greatest_window_in};
 
 use crate::members::{Member, greatest_window_of};
 use db_table::{hundredths, level};
@@ -31,6 +31,7 @@ fn audible_windows(members: &[Member]) -> WindowTally
     requires { length members.now ≤ most_recordings }
     ensures count { result.count ≡ length (windows_in members.now) }
     ensures sum { result.sum ≡ sum (windows_in members.now) }
+    ensures within { All (λ z. z ≤ greatest_window_in members.now) (windows_in members.now) }
 {
     let mut audible = WindowTally::new();
     for member in members {

@@ -31,12 +31,7 @@ impl Album {
         ensures spare { self.new.spare ≡ self.old.spare }
         ensures counted { steps.old ≤ steps.new }
     {
-        self.put_in(id, tally);
-        let summary = self.summary(steps);
-        let Some(tally) = self.take_out(id) else {
-            unreachable!()
-        };
-        (summary, tally)
+        self.sum_with(id, tally, steps)
     }
 
     /// The levels that the album would have without one of its recordings.
@@ -78,8 +73,33 @@ impl Album {
         let Some(replaced) = self.take_out(id) else {
             unreachable!()
         };
-        let (summary, tally) = self.summary_with(id, tally, steps);
+        let (summary, tally) = self.sum_with(id, tally, steps);
         self.put_in(id, replaced);
+        (summary, tally)
+    }
+
+    /// Puts a recording in, sums, and takes it out.
+    fn sum_with<L: Ledger>(
+        &mut self,
+        id: u32,
+        tally: TrackTally,
+        steps: &mut Steps<L>,
+    ) -> (Summary, TrackTally)
+        requires spare { 0 < self.old.spare }
+        requires fresh { ¬ Contains (ids_of self.old) id }
+        requires few { length (ids_of self.old) < most_recordings }
+        ensures summary { (recordings : List (ℕ × Measured)) (measured : Measured) → IsAlbumOf self.old recordings
+            → StandsForMeasured tally measured → IsAlbumSummary (measured_of (with_recording id measured recordings)) result.0 }
+        ensures tally { (measured : Measured) → StandsForMeasured tally measured → StandsForMeasured result.1 measured }
+        ensures members { self.new.members ≡ self.old.members }
+        ensures spare { self.new.spare ≡ self.old.spare }
+        ensures counted { steps.old ≤ steps.new }
+    {
+        self.put_in(id, tally);
+        let summary = self.summary(steps);
+        let Some(tally) = self.take_out(id) else {
+            unreachable!()
+        };
         (summary, tally)
     }
 }
