@@ -33,8 +33,9 @@ impl Tally {
     pub fn add_audible(&mut self, blocks: &[u128])
         requires within { All (λ z. z ≤ 4 * greatest_energy) blocks.now }
         requires room { self.old.count + length blocks.now ≤ 2 ^ 25 }
-        ensures { (before : List ℕ) → IsTallyOf before self.old.count self.old.sum
+        ensures tally { (before : List ℕ) → IsTallyOf before self.old.count self.old.sum
             → IsTallyOf (before ++ filter is_audible blocks.now) self.new.count self.new.sum }
+        ensures count { self.new.count ≤ self.old.count + length blocks.now }
     {
         *self = both(*self, audible_of(blocks));
     }
@@ -44,9 +45,10 @@ impl Tally {
     pub fn add_near(&mut self, blocks: &[u128], audible: Tally)
         requires within { All (λ z. z ≤ 4 * greatest_energy) blocks.now }
         requires room { self.old.count + length blocks.now ≤ 2 ^ 25 }
-        ensures { (counted before : List ℕ) → IsTallyOf counted audible.count audible.sum
+        ensures tally { (counted before : List ℕ) → IsTallyOf counted audible.count audible.sum
             → IsTallyOf before self.old.count self.old.sum
             → IsTallyOf (before ++ filter (is_near counted) (filter is_audible blocks.now)) self.new.count self.new.sum }
+        ensures count { self.new.count ≤ self.old.count + length blocks.now }
     {
         *self = both(*self, near_of(blocks, audible));
     }
@@ -55,7 +57,8 @@ impl Tally {
 /// The tally of the blocks of two.
 fn both(one: Tally, other: Tally) -> Tally
     requires { one.count + other.count ≤ 2 ^ 25 }
-    ensures { (xs ys : List ℕ) → IsTallyOf xs one.count one.sum → IsTallyOf ys other.count other.sum
+    ensures count { result.count ≡ one.count + other.count }
+    ensures tally { (xs ys : List ℕ) → IsTallyOf xs one.count one.sum → IsTallyOf ys other.count other.sum
         → IsTallyOf (xs ++ ys) result.count result.sum }
 {
     Tally {

@@ -6,7 +6,9 @@
 
 mod gates;
 mod ranges;
+mod tallies;
 #[cfg(test)]
 mod tests;
 
 pub use ranges::{percentile_place, range};
+pub use tallies::WindowTally;

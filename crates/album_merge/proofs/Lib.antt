@@ -1,0 +1,4 @@
+pub mod Joining
+pub mod Orders
+pub mod Placing
+pub mod Running
