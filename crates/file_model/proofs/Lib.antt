@@ -5,4 +5,6 @@ pub mod Rows
 pub mod Samples
 pub mod Spellings
 pub mod Waves
+pub mod BitsLemmas
+pub mod FieldsLemmas
 mod WorkedBits

@@ -1,0 +1,1 @@
+//! Cyclic redundancy checks, by tables.
