@@ -4,7 +4,7 @@ use Rattle.std.specs.Int.{w64, leading_zeros}
 use Rattle.std.proofs.lemmas.Bool.{cases_lt}
 use Rattle.std.proofs.lemmas.List.{take-append-drop, drop-drop, drop-take, take-take, drop-append-le, take_at, drop_at, length-take-le}
 use Rattle.std.proofs.lemmas.Nat.{pow_pos, pow-add, shr-shr, shl-shr, mod-pow-add, leading_length}
-use Rattle.std.proofs.Math.Nat.{two-pow-succ, pow-le-pow_right, lt_of_mul-lt-mul_right, le_of_mul-le-mul_right, mul-mod_left, div-eq_of_lt-le}
+use Rattle.std.proofs.Math.Nat.{two-pow-succ, pow-le-pow_right, lt_of_mul-lt-mul_right, le_of_mul-le-mul_right, mul-lt-mul_of_pos_right, mul-mod_left, div-eq_of_lt-le}
 use Rattle.std.proofs.Math.Seq.{take-add}
 use Rattle.file_model.specs.declared.bits.BitFault.{BitFault}
 use Rattle.file_model.specs.Bits.{bits_in, bits, number}
@@ -126,6 +126,25 @@ window_one left fewer window passed is below count fits =
     ∙ unary_one front (drop (64 - fewer) left) passed (omega arith) low_front high_front
     ∙ ap (λ (xs : List Bool). Ok (passed, xs)) behind_one
 
+-- a window that is not 0 has its first 1 above the zeros under it
+pub window_has : (left : List Bool) (fewer window passed : ℕ) → IsWindow left fewer window → 0 < window → window < 2 ^ 64 → passed ≡ leading_zeros w64 window
+    → suc passed + fewer ≤ 64
+window_has left fewer window passed is some below count = cases (cases_lt (fewer + passed) 64)
+  where
+    product_above : (n k : ℕ) → 0 < n * k → k ≤ n * k
+    product_above zero k some = absurd (omega arith)
+    product_above (suc n) k some = omega arith
+    cases : (fewer + passed < 64) ⊎ (64 ≤ fewer + passed) → suc passed + fewer ≤ 64
+    cases (inl less) = omega arith
+    cases (inr more) =
+        let found = leading_length 64 window below in
+        let sum = found.1 in
+        let high = found.2 in
+        let value = is.value in
+        let least : 2 ^ fewer ≤ number (take (64 - fewer) left) * 2 ^ fewer = product_above (number (take (64 - fewer) left)) (2 ^ fewer) (omega arith) in
+        let power : 2 ^ found.0 ≤ 2 ^ fewer = pow-le-pow_right (omega arith) (omega arith) in
+        absurd (omega arith)
+
 -- the one behind the zeros is the highest of its bits
 pub window_rice : (left : List Bool) (fewer window passed low : ℕ) → IsWindow left fewer window → window < 2 ^ 64 → passed ≡ leading_zeros w64 window
     → passed + 1 + low + fewer ≤ 64 → window / 2 ^ (63 - passed - low) ≡ 2 ^ low + number (take low (drop (suc passed) left))
@@ -147,3 +166,14 @@ window_rice left fewer window passed low is below count fits =
     quotient_one : (n k : ℕ) → k ≤ n → n < k + k → n / k ≡ 1
     quotient_one n k low high =
         div-eq_of_lt-le {k = 1} k (let once : 1 * k ≤ n = omega arith in once) (let twice : n < 2 * k = omega arith in twice)
+
+pub window_below : (left : List Bool) (fewer window : ℕ) → IsWindow left fewer window → window < 2 ^ 64
+window_below left fewer window is =
+    let whole = is.whole in
+    let few = is.few in
+    let value = is.value in
+    let size : length (take (64 - fewer) left) ≡ 64 - fewer = length-take-le (64 - fewer) left (omega arith) in
+    let below : number (take (64 - fewer) left) < 2 ^ (64 - fewer) = (let P : ℕ → Type 0 = λ k. number (take (64 - fewer) left) < 2 ^ k in subst P size (number-below (take (64 - fewer) left))) in
+    let product : number (take (64 - fewer) left) * 2 ^ fewer < 2 ^ (64 - fewer) * 2 ^ fewer = mul-lt-mul_of_pos_right below (pow_pos fewer) in
+    let power : 2 ^ 64 ≡ 2 ^ (64 - fewer) * 2 ^ fewer = ap (λ (k : ℕ). 2 ^ k) (let same : 64 ≡ 64 - fewer + fewer = omega arith in same) ∙ pow-add 2 (64 - fewer) fewer in
+    omega arith

@@ -5,7 +5,7 @@ ghost use Rattle.file_model.specs.Fields.{field, signed_field, unary_at, rice_at
 ghost use Rattle.file_model.specs.Outcomes.{Gives};
 ghost use Rattle.bit_codec.specs.Windows.{IsWindow, held_behind, rice_by_parts};
 
-use crate::windows::{highest, joined, rice_value, with_sign, word_at};
+use crate::windows::{highest, joined, rice_value, with_sign, word};
 use file_model::BitFault;
 
 /// Reads fields from bytes, the high bit of each byte first.
@@ -127,7 +127,10 @@ impl<'a> BitReader<'a> {
         ensures place { place self.new % 8 ≡ 0 }
     {
         let padding = (8 - self.bit) % 8;
-        self.take(padding) == Ok(0)
+        match self.take(padding) {
+            Ok(passed) => passed == 0,
+            Err(_) => unreachable!(),
+        }
     }
 
     /// A coded number: in the form of UTF-8, of up to seven bytes.
@@ -157,7 +160,8 @@ impl BitReader<'_> {
         if self.bytes.len() < self.byte + 8 {
             return None;
         }
-        Some(word_at(self.bytes, self.byte) << self.bit)
+        let rest = self.bytes.split_at(self.byte).1;
+        Some(word(rest) << self.bit)
     }
 
     /// Goes past so many bits.
@@ -183,8 +187,10 @@ impl BitReader<'_> {
         ensures gives { MatchOption result (left self.old ≡ []) (λ bit. left self.old ≡ bit ∷ left self.new) }
         ensures whole { source self.new ≡ source self.old }
     {
-        let byte = *self.bytes.get(self.byte)?;
-        let bit = byte >> (7 - self.bit) & 1 == 1;
+        if self.bytes.len() <= self.byte {
+            return None;
+        }
+        let bit = (self.bytes[self.byte] >> (7 - self.bit)) % 2 == 1;
         self.skip(1);
         Some(bit)
     }

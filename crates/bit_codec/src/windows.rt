@@ -3,21 +3,14 @@ ghost use Rattle.std.specs.Prelude.{◌≡◌, ◌≤◌, ◌<◌, ◌+◌, ◌-
 ghost use Rattle.file_model.specs.Bits.{bits, number};
 ghost use Rattle.file_model.specs.Samples.{signed};
 
-/// The eight bytes at a place as a number, the highest first.
+/// The first eight bytes as a number, the highest first.
 #[inline(always)]
-pub(crate) fn word_at(bytes: &[u8], at: usize) -> u64
-    requires { at + 8 ≤ length bytes.now }
-    ensures { result ≡ number (bits (take 8 (drop at bytes.now))) }
+pub(crate) fn word(bytes: &[u8]) -> u64
+    requires { 8 ≤ length bytes.now }
+    ensures { result ≡ number (bits (take 8 bytes.now)) }
 {
     u64::from_be_bytes([
-        bytes[at],
-        bytes[at + 1],
-        bytes[at + 2],
-        bytes[at + 3],
-        bytes[at + 4],
-        bytes[at + 5],
-        bytes[at + 6],
-        bytes[at + 7],
+        bytes[0], bytes[1], bytes[2], bytes[3], bytes[4], bytes[5], bytes[6], bytes[7],
     ])
 }
 
@@ -53,6 +46,7 @@ pub(crate) fn rice_value(window: u64, quotient: u32, low: u32) -> u64
     requires few { low ≤ 30 }
     requires width { quotient + 1 + low ≤ 64 }
     requires one { 2 ^ low ≤ window / 2 ^ (63 - quotient - low) }
+    requires no_more { window / 2 ^ (63 - quotient - low) < 2 * 2 ^ low }
     ensures { result ≡ quotient * 2 ^ low + (window / 2 ^ (63 - quotient - low) - 2 ^ low) }
 {
     let one_and_low = window >> (63 - quotient - low);

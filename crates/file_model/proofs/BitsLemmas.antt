@@ -161,7 +161,7 @@ bits-drop k bytes within =
     ap (drop (8 * k)) (bits-split k bytes) ∙ drop_at (bits (take k bytes)) (bits (drop k bytes)) (8 * k) (length-front k bytes within)
 
 -- one byte before others
-bits-cons : (byte : ℕ) (bytes : List ℕ) → bits (byte ∷ bytes) ≡ bits_in 8 byte ++ bits bytes
+pub bits-cons : (byte : ℕ) (bytes : List ℕ) → bits (byte ∷ bytes) ≡ bits_in 8 byte ++ bits bytes
 unfolding bits
 bits-cons byte bytes = refl
 

@@ -1,1 +1,0 @@
-//! Cyclic redundancy checks, by tables.
