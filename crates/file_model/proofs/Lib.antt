@@ -7,6 +7,8 @@ pub mod Rows
 pub mod Samples
 pub mod Spellings
 pub mod Waves
+pub mod BitsLemmas
+pub mod FieldsLemmas
 mod WorkedBits
 mod WorkedFields
 pub mod WorkedPredictions
