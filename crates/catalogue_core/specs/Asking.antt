@@ -2,9 +2,10 @@
 use Rattle.std.specs.Prelude.{Option, None, Some}
 use Rattle.keeper_store.specs.declared.row_types.RecordingRow.{RecordingRow}
 use Rattle.library_model.specs.declared.messages.Reply.{Reply}
-use Rattle.library_model.specs.Replies.{json, recording_text, no_recording_refusal}
+use Rattle.library_model.specs.Replies.{no_recording_refusal}
+use Rattle.catalogue_core.specs.Objects.{row_reply}
 
 -- what is replied about the row that was looked for
-abbrev pub row_reply : Option RecordingRow → Reply
-row_reply (Some row) = json 200 (recording_text row.id row.channels row.depth row.summary)
-row_reply None = no_recording_refusal
+abbrev pub found_row_reply : Option RecordingRow → Reply
+found_row_reply (Some row) = row_reply 200 row
+found_row_reply None = no_recording_refusal

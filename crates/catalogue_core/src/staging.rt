@@ -1,6 +1,7 @@
 //! Deciding a request, and taking all that accepting it wants.
 ghost use Rattle.std.specs.Prelude.{◌≡◌, ◌≤◌, ◌+◌, Some, IfOk};
 ghost use Rattle.keeper_store.specs.Blobs.{OthersKept};
+ghost use Rattle.keeper_store.specs.EnergyBytes.{AreEnergies};
 ghost use Rattle.keeper_store.specs.Goes.{Goes, RoseByOneAtMost};
 ghost use Rattle.library_model.specs.State.{State};
 ghost use Rattle.catalogue_core.specs.Committing.{Fits};
@@ -10,11 +11,10 @@ ghost use Rattle.catalogue_core.specs.Staging.{StagedFrom, HoldsFileOf, IfReady,
 
 use crate::examining::{Examined, examine};
 use crate::importing::prepare_import;
-use crate::measures::Measure;
 use crate::reply_texts::{refuse, refuse_format};
 use crate::{Library, Staged};
 use keeper_store::Vault;
-use lib_base::{Bytes, Memory, Outside};
+use lib_base::{Bytes, Measured, Memory, Outside, Summary};
 use library_model::{Command, Request};
 
 /// The number from which on none is given to a recording or a take.
@@ -64,7 +64,9 @@ fn stage_import<V: Vault>(
 {
     match examine(library.alloc, file.as_slice())? {
         Examined::Broken(fault) => Ok(Staged::Refused(refuse_format(library.alloc, fault)?)),
-        Examined::Accepted(measure) => stage_accepted(library, file.as_slice(), &measure, vault),
+        Examined::Accepted(measured, summary) => {
+            stage_accepted(library, file.as_slice(), &measured, summary, vault)
+        }
     }
 }
 
@@ -72,11 +74,13 @@ fn stage_import<V: Vault>(
 fn stage_accepted<V: Vault>(
     library: &mut Library,
     file: &[u8],
-    measure: &Measure,
+    measured: &Measured,
+    summary: Summary,
     vault: &mut V,
 ) -> Result<Staged, Memory>
+    requires { AreEnergies measured.now.energies }
     ensures stages { IfOk result
-        (StagesAccepted (kept_tables library.old) file.now measure.now (V.faults vault.old) (V.faults vault.new)) }
+        (StagesAccepted (kept_tables library.old) file.now measured.now summary (V.faults vault.old) (V.faults vault.new)) }
     ensures fits { IfReady result (Fits library.new) }
     ensures kept { kept_tables library.new ≡ kept_tables library.old }
     ensures others { Goes (OthersKept (kept_tables library.old).next_take) (V.blobs vault.old) (V.blobs vault.new) }
@@ -90,7 +94,7 @@ fn stage_accepted<V: Vault>(
     if has_no_number(library) {
         return Ok(Staged::Refused(refuse(alloc, 409, "ids")?));
     }
-    let ready = prepare_import(library, file, measure)?;
+    let ready = prepare_import(library, file, measured, summary)?;
     let vault_refusal = refuse(alloc, 502, "vault")?;
     match vault.put(library.next_take, file) {
         Ok(()) => Ok(Staged::Ready(ready)),
