@@ -120,12 +120,12 @@ fn reply_of(alloc: Global, status: u16, body: &str) -> Result<Reply, Memory> {
 
 #[test]
 fn spells(rt: HostRuntime) -> Result<(), Fail> {
-    let body = "{\"frames\":5,\"id\":1,\"sample_peak\":12345}";
+    let body = "{\"frames\":50,\"id\":1,\"true_peak\":-12345}";
     let created = reply_of(rt.alloc(), 201, body)?;
     let stays =
-        "HTTP/1.1 201 Created\r\nContent-Type: application/json\r\nContent-Length: 39\r\n\r\n{\"frames\":5,\"id\":1,\"sample_peak\":12345}";
+        "HTTP/1.1 201 Created\r\nContent-Type: application/json\r\nContent-Length: 39\r\n\r\n{\"frames\":50,\"id\":1,\"true_peak\":-12345}";
     let closes =
-        "HTTP/1.1 201 Created\r\nContent-Type: application/json\r\nContent-Length: 39\r\nConnection: close\r\n\r\n{\"frames\":5,\"id\":1,\"sample_peak\":12345}";
+        "HTTP/1.1 201 Created\r\nContent-Type: application/json\r\nContent-Length: 39\r\nConnection: close\r\n\r\n{\"frames\":50,\"id\":1,\"true_peak\":-12345}";
     assert_eq!(rt;
         spell(rt.alloc(), &created, false)?.as_slice(),
         stays.as_bytes()
