@@ -1,8 +1,9 @@
 -- What staging answers is what the machine decides.
-use Rattle.std.proofs.Common.{◌≡◌, ◌≢◌, ◌<◌, ◌||◌, ℕ, Bool, true, false, nat_le, List, length, refl, sym, ap, ◌∙◌, arith, if◌then◌else◌, inl, inr}
+use Rattle.std.proofs.Common.{◌≡◌, ◌≢◌, ◌<◌, ◌||◌, ℕ, Bool, true, false, nat_le, List, refl, sym, subst, ap, ◌∙◌, arith, if◌then◌else◌, inl, inr}
 use Rattle.std.proofs.lemmas.Bool.Decides.{nat_tests}
 use Rattle.lib_base.specs.declared.outcomes.Rule.{Rule}
 use Rattle.lib_base.specs.Faults.{Rose}
+use Rattle.lib_base.specs.declared.files.Measured.{Measured}
 use Rattle.lib_base.specs.declared.files.Summary.{Summary}
 use Rattle.file_model.specs.Pcm.{Pcm}
 use Rattle.file_model.specs.Reading.{Reads, accepted}
@@ -11,17 +12,16 @@ use Rattle.library_model.specs.declared.messages.Command.TheVariants.{Import}
 use Rattle.library_model.specs.declared.messages.Reply.{Reply}
 use Rattle.library_model.specs.declared.messages.Request.{Request}
 use Rattle.library_model.specs.Machine.{recording_reply, new_recording, imported, import_verdict, stays, accepts, as_decided, vault_failed}
-use Rattle.library_model.specs.Replies.{json, recording_text, format_refusal, refusal}
+use Rattle.library_model.specs.Replies.{format_refusal, refusal}
 use Rattle.library_model.specs.declared.refusals.Refusal.TheVariants.{Format, Ids, Vault, Keeper, Memory}
 use Rattle.library_model.specs.Refusals.{status_of}
 use Rattle.library_model.specs.Stands.{tables_of}
 use Rattle.library_model.specs.State.{State, IsValid, numbers_end}
 use Rattle.library_model.proofs.Imports.{imported-IsValid, tables_of-imported, HoldsFiles-imported}
-use Rattle.catalogue_core.specs.declared.measures.Measure.{Measure}
 use Rattle.catalogue_core.specs.declared.prepared.Prepared.{Prepared}
 use Rattle.catalogue_core.specs.declared.prepared.Staged.{Staged}
 use Rattle.catalogue_core.specs.declared.prepared.Staged.TheVariants.{Refused, Ready}
-use Rattle.catalogue_core.specs.Examining.{IsMeasureOf}
+use Rattle.catalogue_core.specs.Examining.{IsMeasuredOf, measured_of}
 use Rattle.catalogue_core.specs.Imports.{lacks_numbers, PreparesImport, StagesAccepted}
 use Rattle.catalogue_core.specs.Staging.{Prepares, RefusesBy, StagedFrom}
 
@@ -90,16 +90,12 @@ RefusesBy-vault s file sound summary reply before now reads lacks is rose =
     }
 
 -- a prepared import is that of the request
-Prepares-import : (s : State) (file : List ℕ) (sound : Pcm) (measure : Measure) (p : Prepared) → IsValid s
-    → Reads file (accepted sound) → IsMeasureOf sound measure → lacks_numbers (tables_of s) ≡ false
-    → PreparesImport (tables_of s) file measure p → Prepares s (import_of file) p
-Prepares-import s file sound measure p valid reads are lacks prepares =
-    let summary = measure.summary in
+Prepares-import : (s : State) (file : List ℕ) (sound : Pcm) (summary : Summary) (p : Prepared) → IsValid s
+    → Finds file (measured sound summary) → lacks_numbers (tables_of s) ≡ false
+    → PreparesImport (tables_of s) file (measured_of sound) summary p → Prepares s (import_of file) p
+Prepares-import s file sound summary p valid finds lacks prepares =
     let left = below_end s.next_recording s.next_take numbers_end lacks in
-    let finds : Finds file (measured sound summary) = (reads, are.summary) in
-    let reply : p.reply ≡ recording_reply 201 (new_recording s file sound summary) =
-    prepares.reply ∙ ap (λ (k : ℕ). json 201 (recording_text s.next_recording k measure.depth summary)) are.channels
-    ∙ ap (λ (d : ℕ). json 201 (recording_text s.next_recording (length sound.lists) d summary)) are.depth in
+    let reply : p.reply ≡ recording_reply 201 (new_recording s file sound summary) = prepares.reply in
     record {
       next = imported s file sound summary;
       decides = (
@@ -108,19 +104,27 @@ Prepares-import s file sound measure p valid reads are lacks prepares =
         ap (λ r. accepts r (imported s file sound summary)) reply ∙ sym (import_verdict-lacks s file sound summary false lacks),
       );
       valid = imported-IsValid s file sound summary valid left.0 left.1 finds;
-      rows = rw (prepares.changes, are.channels, are.depth, are.energies) (sym (tables_of-imported s file sound summary valid));
+      rows = rw prepares.changes (sym (tables_of-imported s file sound summary valid));
       files = λ old new held others put. HoldsFiles-imported s file sound summary old new valid held others put;
       granted = ap (λ (r : Reply). r.status) reply;
     }
 
--- what staging an accepted file answers is what staging its import answers
-pub StagedFrom-accepted : (s : State) (file : List ℕ) (sound : Pcm) (measure : Measure) (before now : ℕ) (staged : Staged) → IsValid s
-    → Reads file (accepted sound) → IsMeasureOf sound measure → StagesAccepted (tables_of s) file measure before now staged
+-- what staging a file of that sound answers is what staging its import answers
+StagedFrom-sound : (s : State) (file : List ℕ) (sound : Pcm) (summary : Summary) (before now : ℕ) (staged : Staged) → IsValid s
+    → Finds file (measured sound summary) → StagesAccepted (tables_of s) file (measured_of sound) summary before now staged
     → StagedFrom s (import_of file) before now staged
-StagedFrom-accepted s file sound measure before now (Refused reply) valid reads are stages =
+StagedFrom-sound s file sound summary before now (Refused reply) valid finds stages =
     elim stages [
-      | inl h ↦ RefusesBy-ids s file sound measure.summary reply before now (reads, are.summary) h.0 h.1
-      | inr h ↦ RefusesBy-vault s file sound measure.summary reply before now (reads, are.summary) h.0 h.1 h.2
+      | inl h ↦ RefusesBy-ids s file sound summary reply before now finds h.0 h.1
+      | inr h ↦ RefusesBy-vault s file sound summary reply before now finds h.0 h.1 h.2
     ]
-StagedFrom-accepted s file sound measure before now (Ready p) valid reads are stages =
-    Prepares-import s file sound measure p valid reads are stages.0 stages.1
+StagedFrom-sound s file sound summary before now (Ready p) valid finds stages =
+    Prepares-import s file sound summary p valid finds stages.0 stages.1
+
+-- so of an accepted file
+pub StagedFrom-accepted : (s : State) (file : List ℕ) (sound : Pcm) (m : Measured) (summary : Summary) (before now : ℕ) (staged : Staged)
+    → IsValid s → Reads file (accepted sound) → IsMeasuredOf sound m summary
+    → StagesAccepted (tables_of s) file m summary before now staged → StagedFrom s (import_of file) before now staged
+StagedFrom-accepted s file sound m summary before now staged valid reads are stages =
+    let Stages : Measured → Type 0 = λ m. StagesAccepted (tables_of s) file m summary before now staged in
+    StagedFrom-sound s file sound summary before now staged valid (reads, are.levels) (subst Stages are.measured_is stages)

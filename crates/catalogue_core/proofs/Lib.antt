@@ -1,5 +1,5 @@
 pub mod Changing
 pub mod Deciding
 pub mod FoundRows
-pub mod Lengths
+pub mod Summing
 pub mod Texts

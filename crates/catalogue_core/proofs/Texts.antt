@@ -10,9 +10,9 @@ use Rattle.serde_json.specs.declared.value.Value.{Value}
 use Rattle.serde_json.specs.Written.{compact_text, has_float}
 use Rattle.serde_json.proofs.OnLiterals.{serde_json_on_literals}
 use Rattle.sound_model.specs.Texts.{peak_text}
+use Rattle.keeper_store.specs.declared.row_types.RecordingRow.{RecordingRow}
 use Rattle.library_model.specs.Replies.{level_text}
-use Rattle.catalogue_core.specs.declared.reply_texts.Described.{Described}
-use Rattle.catalogue_core.specs.Objects.{level_data, recording_object, described_text}
+use Rattle.catalogue_core.specs.Objects.{level_data, recording_object, row_text}
 
 -- a level is written as the definition says
 level_written : (level : Option ℤ) → compact_text (level_data level) ≡ level_text level
@@ -34,7 +34,7 @@ not_float (Some (pos n)) = refl
 not_float (Some (negsuc n)) = refl
 
 -- nor is anything else of a recording
-pub no_float-recording : (r : Described) (peak : List ℕ) → has_float (recording_object r peak) ≡ false
+pub no_float-recording : (r : RecordingRow) (peak : List ℕ) → has_float (recording_object r peak) ≡ false
 no_float-recording r peak =
     let s = r.summary in
     rw (not_float s.gain, not_float s.loudness, not_float s.momentary, not_float s.range, not_float s.short_term, not_float s.true_peak) refl
@@ -89,8 +89,8 @@ unfolding serde_json_on_literals text_by_levels
 object_written id channels depth frames peak gain loudness momentary range short true_peak = simp append_assoc
 
 -- the compact text of the object is that of the definition
-pub compact_text-recording : (r : Described) (peak : List ℕ) → peak ≡ peak_text r.summary.peak
-    → compact_text (recording_object r peak) ≡ described_text r
+pub compact_text-recording : (r : RecordingRow) (peak : List ℕ) → peak ≡ peak_text r.summary.peak
+    → compact_text (recording_object r peak) ≡ row_text r
 unfolding text_by_levels
 compact_text-recording r peak is =
     let by : Levels → List ℕ = text_by_levels r.id r.channels r.depth r.summary.frames (quoted peak) in
@@ -101,7 +101,7 @@ compact_text-recording r peak is =
     (level_written summary.range) (level_written summary.short_term) (level_written summary.true_peak))
     ∙ ap (λ (p : List ℕ). text_by_levels r.id r.channels r.depth summary.frames (quoted p) (levels_of r)) is
   where
-    levels_of : Described → Levels
+    levels_of : RecordingRow → Levels
     levels_of r = record {
       gain = level_text r.summary.gain;
       loudness = level_text r.summary.loudness;

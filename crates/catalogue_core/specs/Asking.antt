@@ -3,9 +3,10 @@ use Rattle.std.specs.Prelude.{Option, None, Some}
 use Rattle.keeper_store.specs.declared.row_types.RecordingRow.{RecordingRow}
 use Rattle.library_model.specs.declared.messages.Reply.{Reply}
 use Rattle.library_model.specs.declared.refusals.Refusal.TheVariants.{NoRecording}
-use Rattle.library_model.specs.Replies.{json, recording_text, refusal}
+use Rattle.library_model.specs.Replies.{refusal}
+use Rattle.catalogue_core.specs.Objects.{row_reply}
 
 -- what is replied about the row that was looked for
-abbrev pub row_reply : Option RecordingRow → Reply
-row_reply (Some row) = json 200 (recording_text row.id row.channels row.depth row.summary)
-row_reply None = refusal NoRecording
+abbrev pub found_row_reply : Option RecordingRow → Reply
+found_row_reply (Some row) = row_reply 200 row
+found_row_reply None = refusal NoRecording

@@ -1,20 +1,32 @@
 -- What examining a file finds.
-use Rattle.std.specs.Prelude.{◌≡◌, ℕ, List, length}
+use Rattle.std.specs.Prelude.{◌≡◌, ◌≤◌, ◌^◌, ℕ, List, length}
+use Rattle.lib_base.specs.declared.files.Measured.{Measured}
+use Rattle.lib_base.specs.declared.files.Summary.{Summary}
 use Rattle.file_model.specs.Pcm.{Pcm}
 use Rattle.file_model.specs.Reading.{Reads, accepted, broken}
-use Rattle.library_model.specs.Findings.{IsSummaryOf, energies_of}
-use Rattle.catalogue_core.specs.declared.measures.Measure.{Measure}
+use Rattle.gate_blocks.specs.Bounds.{AreSegments}
+use Rattle.library_model.specs.Findings.{IsSummaryOf}
+use Rattle.sound_model.specs.Summaries.{measured, greatest_peak}
 use Rattle.catalogue_core.specs.declared.examining.Examined.{Examined}
 use Rattle.catalogue_core.specs.declared.examining.Examined.TheVariants.{Accepted, Broken}
 
--- the measure is that of the sound
-pub record IsMeasureOf (sound : Pcm) (measure : Measure) : Type 0 where
-  pub channels : measure.channels ≡ length sound.lists
-  pub depth : measure.depth ≡ sound.depth
-  pub summary : IsSummaryOf sound measure.summary
-  pub energies : measure.energies ≡ energies_of sound
+-- what is measured of a sound
+abbrev pub measured_of : Pcm → Measured
+measured_of sound = measured sound.depth sound.frames sound.lists
 
--- the file is accepted, with the measure of its sound, or broken by that rule at that place
+-- It is small enough for its levels to be taken, and for its energies to be stored.
+pub record IsSummable (m : Measured) : Type 0 where
+  pub segments : AreSegments m.energies
+  pub few : length m.energies ≤ 2 ^ 25
+  pub peak : m.peak ≤ greatest_peak
+
+-- what is measured is that of the sound, and the levels are the sound's
+pub record IsMeasuredOf (sound : Pcm) (m : Measured) (summary : Summary) : Type 0 where
+  pub measured_is : m ≡ measured_of sound
+  pub levels : IsSummaryOf sound summary
+  pub summable : IsSummable m
+
+-- the file is accepted, with what is measured of its sound, or broken by that rule at that place
 abbrev pub IsFound : List ℕ → Examined → Type 0
-IsFound file (Accepted measure) = (sound : Pcm) × Reads file (accepted sound) × IsMeasureOf sound measure
+IsFound file (Accepted m summary) = (sound : Pcm) × Reads file (accepted sound) × IsMeasuredOf sound m summary
 IsFound file (Broken fault) = Reads file (broken fault.rule fault.place)

@@ -3,11 +3,11 @@ ghost use Rattle.std.specs.Prelude.{◌≡◌, ◌==◌, IfOk, option_copied};
 ghost use Rattle.std.specs.List.{find};
 ghost use Rattle.library_model.specs.Machine.{question_reply};
 ghost use Rattle.library_model.specs.State.{State};
-ghost use Rattle.catalogue_core.specs.Asking.{row_reply};
+ghost use Rattle.catalogue_core.specs.Asking.{found_row_reply};
 ghost use Rattle.catalogue_core.specs.Kept.{Keeps};
 
 use crate::Library;
-use crate::reply_texts::{Described, describe_recording, refuse};
+use crate::reply_texts::{describe_row, refuse};
 use keeper_store::{RecordingRow, Vault};
 use lib_base::Memory;
 use library_model::{Question, Refusal, Reply};
@@ -25,23 +25,11 @@ pub fn ask<V: Vault>(library: &Library, question: &Question, vault: &mut V) -> R
 
 /// Answers a question after the recording of an id.
 fn ask_recording(library: &Library, id: u32) -> Result<Reply, Memory>
-    ensures { IfOk result (λ reply. reply ≡ row_reply (find (λ (row : RecordingRow). row.id == id) library.now.recordings.items)) }
+    ensures { IfOk result (λ reply. reply ≡ found_row_reply (find (λ (row : RecordingRow). row.id == id) library.now.recordings.items)) }
 {
     match row_of(library.recordings.as_slice(), id) {
-        Some(row) => describe_recording(library.alloc, 200, described(row)),
+        Some(row) => describe_row(library.alloc, 200, row),
         None => refuse(library.alloc, Refusal::NoRecording),
-    }
-}
-
-/// A recording as its row describes it.
-fn described(row: &RecordingRow) -> Described
-    ensures { result ≡ record { id = row.now.id; channels = row.now.channels; depth = row.now.depth; summary = row.now.summary } }
-{
-    Described {
-        id: row.id,
-        channels: row.channels,
-        depth: row.depth,
-        summary: row.summary,
     }
 }
 

@@ -1,22 +1,24 @@
 //! What a file is, and what is measured of it.
-ghost use Rattle.std.specs.Prelude.{◌<◌, ◌^◌, IfOk};
+ghost use Rattle.std.specs.Prelude.{◌≡◌, IfOk};
 ghost use Rattle.file_model.specs.Pcm.{Pcm};
 ghost use Rattle.file_model.specs.Wave.{IsWave};
+ghost use Rattle.sound_model.specs.Blocks.{blocks_of, windows_of};
+ghost use Rattle.sound_model.specs.Summaries.{Summarises};
 ghost use Rattle.wave_chunks.specs.Answers.{IsReadOf};
-ghost use Rattle.catalogue_core.specs.Examining.{IsFound, IsMeasureOf};
+ghost use Rattle.catalogue_core.specs.Examining.{IsFound, IsSummable, measured_of};
 
-use crate::measures::Measure;
 use album_merge::summarise;
 use gate_blocks::{blocks, windows};
-use lib_base::{Broken, Memory, Refused, Sound};
+use lib_base::{Broken, Measured, Memory, Refused, Summary};
+use measure_pool::measure;
 use std::alloc::Global;
-use wave_chunks::Wave;
+use wave_chunks::{Wave, WaveSound};
 
 /// What a file is found to be.
 #[derive(Debug, Drop)]
 pub enum Examined {
-    /// A file that the library accepts.
-    Accepted(Measure),
+    /// A file that the library accepts: what is measured of its sound, and the levels of that.
+    Accepted(Measured, Summary),
     /// A file that breaks a rule.
     Broken(Broken),
 }
@@ -26,42 +28,37 @@ pub fn examine(alloc: Global, file: &[u8]) -> Result<Examined, Memory>
     ensures { IfOk result (λ found. IsFound file.now found) }
 {
     match wave_chunks::read(alloc, file) {
-        Ok(wave) => Ok(Examined::Accepted(measure_file(alloc, file, &wave)?)),
+        Ok(wave) => {
+            let measured = measure_wave(alloc, file, &wave)?;
+            let summary = summary_of(alloc, &measured)?;
+            Ok(Examined::Accepted(measured, summary))
+        }
         Err(Refused::Broken(fault)) => Ok(Examined::Broken(fault)),
         Err(Refused::Memory) => Err(Memory),
     }
 }
 
 /// What is measured of a wave file.
-fn measure_file(alloc: Global, file: &[u8], wave: &Wave) -> Result<Measure, Memory>
+fn measure_wave(alloc: Global, file: &[u8], wave: &Wave) -> Result<Measured, Memory>
     requires { IsReadOf file.now wave.now }
-    ensures { IfOk result (λ measure. (sound : Pcm) → IsWave file.now sound → IsMeasureOf sound measure) }
+    ensures { IfOk result (λ measured. (sound : Pcm) → IsWave file.now sound → measured ≡ measured_of sound) }
 {
-    let sound = wave_chunks::pcm(alloc, file, wave)?;
-    measure_sound(alloc, &sound)
+    measure(alloc, &WaveSound::over(file, wave))
 }
 
-/// What is measured of a sound.
-fn measure_sound<S: Sound>(alloc: Global, sound: &S) -> Result<Measure, Memory>
-    requires { S.frames sound.now < 2 ^ 32 }
-    ensures { IfOk result (IsMeasureOf
-        (record { depth = S.depth sound.now; frames = S.frames sound.now; lists = S.lists sound.now })) }
+/// The levels of what is measured of a sound.
+fn summary_of(alloc: Global, measured: &Measured) -> Result<Summary, Memory>
+    requires { IsSummable measured.now }
+    ensures { IfOk result (Summarises measured.now.frames (blocks_of measured.now.energies)
+        (windows_of measured.now.energies) measured.now.peak) }
 {
-    let energies = measure_pool::energies(alloc, sound)?;
-    let peak = measure_pool::peak(alloc, sound)?;
-    let blocks = blocks(alloc, energies.as_slice())?;
-    let windows = windows(alloc, energies.as_slice())?;
-    let summary = summarise(
+    let blocks = blocks(alloc, measured.energies.as_slice())?;
+    let windows = windows(alloc, measured.energies.as_slice())?;
+    summarise(
         alloc,
-        sound.frames(),
+        measured.frames,
         blocks.as_slice(),
         windows.as_slice(),
-        peak,
-    )?;
-    Ok(Measure {
-        channels: sound.channels() as u8,
-        depth: sound.depth() as u8,
-        summary,
-        energies,
-    })
+        measured.peak,
+    )
 }

@@ -1,44 +1,42 @@
 //! Preparing an import.
 ghost use Rattle.std.specs.Prelude.{◌≡◌, false, IfOk};
 ghost use Rattle.md5.specs.Md5.{md5};
+ghost use Rattle.keeper_store.specs.EnergyBytes.{AreEnergies};
 ghost use Rattle.catalogue_core.specs.Imports.{import_row, import_segments, import_changes, PreparesImport, lacks_numbers};
 ghost use Rattle.catalogue_core.specs.Committing.{Fits};
 ghost use Rattle.catalogue_core.specs.Kept.{kept_tables};
 
-use crate::measures::Measure;
-use crate::reply_texts::{Described, describe_recording, refuse};
+use crate::reply_texts::{describe_row, refuse};
 use crate::{Library, Prepared};
 use keeper_store::{Batch, Change, RecordingRow, Rows, SegmentRow, bytes_of};
-use lib_base::{Kind, Memory, Text};
+use lib_base::{Kind, Measured, Memory, Summary, Text};
 use library_model::Refusal;
 use md5::{Digest, Md5};
 
-/// Prepares the import of a file of that measure, and makes room for it. It takes all the memory
-/// that the import wants.
+/// Prepares the import of a file of which that is measured, with its levels, and makes room for it.
+/// It takes all the memory that the import wants.
 pub fn prepare_import(
     library: &mut Library,
     file: &[u8],
-    measure: &Measure,
+    measured: &Measured,
+    summary: Summary,
 ) -> Result<Prepared, Memory>
-    requires { lacks_numbers (kept_tables library.old) ≡ false }
+    requires left { lacks_numbers (kept_tables library.old) ≡ false }
+    requires energies { AreEnergies measured.now.energies }
     ensures kept { kept_tables library.new ≡ kept_tables library.old }
-    ensures prepares { IfOk result (PreparesImport (kept_tables library.old) file.now measure.now) }
+    ensures prepares { IfOk result (PreparesImport (kept_tables library.old) file.now measured.now summary) }
     ensures fits { IfOk result (Fits library.new) }
 {
     let alloc = library.alloc;
     library.recordings.reserve(3)?;
     library.segments.reserve(3)?;
-    let described = Described {
-        id: library.next_recording,
-        channels: measure.channels,
-        depth: measure.depth,
-        summary: measure.summary,
-    };
-    let reply = describe_recording(alloc, 201, described)?;
+    let row = new_row(library, file, measured, summary);
+    let segments = segment_row(library, measured)?;
+    let reply = describe_row(alloc, 201, &row)?;
     // `commit` takes no memory, so both refusals that it may answer are made here
     let keeper_refusal = refuse(alloc, Refusal::Keeper)?;
     let memory_refusal = refuse(alloc, Refusal::Memory)?;
-    let batch = import_batch(library, file, measure)?;
+    let batch = import_batch(library, row, segments)?;
     Ok(Prepared {
         batch,
         reply,
@@ -47,26 +45,25 @@ pub fn prepare_import(
     })
 }
 
-fn import_batch(library: &Library, file: &[u8], measure: &Measure) -> Result<Batch, Memory>
+fn import_batch(library: &Library, row: RecordingRow, segments: SegmentRow) -> Result<Batch, Memory>
     requires { lacks_numbers (kept_tables library.now) ≡ false }
-    ensures { IfOk result (λ batch. batch.changes ≡ import_changes (kept_tables library.now) file.now measure.now) }
+    ensures { IfOk result (λ batch. batch.changes ≡ import_changes (kept_tables library.now) row segments) }
 {
-    let segments = segment_row(library, measure)?;
     let mut changes = Vec::with_capacity(library.alloc, 3)?;
     changes.push(Change::Counters {
         next_album: library.next_album,
         next_recording: library.next_recording + 1,
         next_take: library.next_take + 1,
     })?;
-    changes.push(Change::PutRecording(new_row(library, file, measure)))?;
+    changes.push(Change::PutRecording(row))?;
     changes.push(Change::PutSegments(segments))?;
     Ok(Batch {
         changes: Rows::of(changes),
     })
 }
 
-fn new_row(library: &Library, file: &[u8], measure: &Measure) -> RecordingRow
-    ensures { result ≡ import_row (kept_tables library.now) file.now measure.now }
+fn new_row(library: &Library, file: &[u8], measured: &Measured, summary: Summary) -> RecordingRow
+    ensures { result ≡ import_row (kept_tables library.now) file.now measured.now summary }
 {
     RecordingRow {
         id: library.next_recording,
@@ -74,18 +71,19 @@ fn new_row(library: &Library, file: &[u8], measure: &Measure) -> RecordingRow
         name: Text::of(String::new(library.alloc)),
         take: library.next_take,
         kind: Kind::Wave,
-        channels: measure.channels,
-        depth: measure.depth,
+        channels: measured.channels,
+        depth: measured.depth,
         digest: digest_of(file),
-        summary: measure.summary,
+        summary,
     }
 }
 
-fn segment_row(library: &Library, measure: &Measure) -> Result<SegmentRow, Memory>
-    ensures { IfOk result (λ row. row ≡ import_segments (kept_tables library.now) measure.now) }
+fn segment_row(library: &Library, measured: &Measured) -> Result<SegmentRow, Memory>
+    requires { AreEnergies measured.now.energies }
+    ensures { IfOk result (λ row. row ≡ import_segments (kept_tables library.now) measured.now) }
 {
     let take = library.next_take;
-    let energies = bytes_of(library.alloc, measure.energies.as_slice())?;
+    let energies = bytes_of(library.alloc, measured.energies.as_slice())?;
     Ok(SegmentRow { take, energies })
 }
 

@@ -13,7 +13,6 @@ mod committing;
 mod examining;
 mod importing;
 mod libraries;
-mod measures;
 mod opening;
 mod prepared;
 mod reply_texts;

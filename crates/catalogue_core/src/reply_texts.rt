@@ -1,23 +1,15 @@
 //! The bodies of replies.
 ghost use Rattle.std.specs.Prelude.{◌≡◌, IfOk, string_bytes};
-ghost use Rattle.catalogue_core.specs.Objects.{described_text, recording_object};
+ghost use Rattle.catalogue_core.specs.Objects.{recording_object, row_reply, row_text};
 ghost use Rattle.serde_json.specs.View.{view};
 ghost use Rattle.library_model.specs.Replies as model;
 
 use db_table::peak_text;
-use lib_base::{Broken, Bytes, Memory, Summary};
+use keeper_store::RecordingRow;
+use lib_base::{Broken, Bytes, Memory};
 use library_model::{BodyKind, Refusal, Reply};
 use serde_json::{Value, json};
 use std::alloc::{AllocError, Global};
-
-/// A recording as it is described: its id, its channels, the bits of a sample, and its levels.
-#[derive(Clone, Copy, Debug)]
-pub struct Described {
-    pub id: u32,
-    pub channels: u8,
-    pub depth: u8,
-    pub summary: Summary,
-}
 
 /// The refusal for that cause.
 pub fn refuse(alloc: Global, cause: Refusal) -> Result<Reply, Memory>
@@ -38,38 +30,33 @@ pub fn refuse_format(alloc: Global, broken: Broken) -> Result<Reply, Memory>
     Ok(json_reply(Refusal::Format.status(), text))
 }
 
-/// What is replied about a recording.
-pub fn describe_recording(alloc: Global, status: u16, recording: Described) -> Result<Reply, Memory>
-    ensures { IfOk result (λ reply. reply ≡ model.json status (described_text recording)) }
+/// What is replied about the recording of a row.
+pub fn describe_row(alloc: Global, status: u16, row: &RecordingRow) -> Result<Reply, Memory>
+    ensures { IfOk result (λ reply. reply ≡ row_reply status row.now) }
 {
-    let text = recording_text(alloc, recording)?;
+    let text = recording_text(alloc, row)?;
     Ok(json_reply(status, text))
 }
 
-fn recording_text(alloc: Global, recording: Described) -> Result<String, Memory>
-    ensures { IfOk result (λ text. string_bytes text ≡ described_text recording) }
+fn recording_text(alloc: Global, row: &RecordingRow) -> Result<String, Memory>
+    ensures { IfOk result (λ text. string_bytes text ≡ row_text row.now) }
 {
-    let peak = peak_text(alloc, recording.summary.peak)?;
-    let value = recording_value(alloc, recording, peak.as_str())?;
+    let peak = peak_text(alloc, row.summary.peak)?;
+    let value = recording_value(alloc, row, peak.as_str())?;
     let text = value.to_string(alloc)?;
     Ok(text)
 }
 
-fn recording_value(alloc: Global, recording: Described, peak: &str) -> Result<Value, AllocError>
-    ensures { IfOk result (λ value. view value ≡ recording_object recording peak.now) }
+fn recording_value(alloc: Global, row: &RecordingRow, peak: &str) -> Result<Value, AllocError>
+    ensures { IfOk result (λ value. view value ≡ recording_object row.now peak.now) }
 {
-    let Described {
-        id,
-        channels,
-        depth,
-        summary,
-    } = recording;
+    let summary = row.summary;
     json!(in alloc; {
-        "channels": channels,
-        "depth": depth,
+        "channels": row.channels,
+        "depth": row.depth,
         "frames": summary.frames,
         "gain": summary.gain,
-        "id": id,
+        "id": row.id,
         "loudness": summary.loudness,
         "momentary": summary.momentary,
         "peak": peak,

@@ -1,5 +1,6 @@
 //! Deciding a request, and taking all that accepting it wants.
 ghost use Rattle.std.specs.Prelude.{◌≡◌, IfOk};
+ghost use Rattle.keeper_store.specs.EnergyBytes.{AreEnergies};
 ghost use Rattle.library_model.specs.State.{State};
 ghost use Rattle.catalogue_core.specs.Imports.{StagesAccepted, lacks_numbers};
 ghost use Rattle.catalogue_core.specs.Kept.{kept_tables, Keeps};
@@ -7,11 +8,10 @@ ghost use Rattle.catalogue_core.specs.Staging.{StagedFrom, Stages, LeavesUnlessF
 
 use crate::examining::{Examined, examine};
 use crate::importing::prepare_import;
-use crate::measures::Measure;
 use crate::reply_texts::{refuse, refuse_format};
 use crate::{Library, Staged};
 use keeper_store::Vault;
-use lib_base::{Bytes, Memory, Outside};
+use lib_base::{Bytes, Measured, Memory, Outside, Summary};
 use library_model::{Command, Refusal, Request};
 
 /// The number from which on none is given to a recording or a take.
@@ -49,7 +49,9 @@ fn stage_import<V: Vault>(
 {
     match examine(library.alloc, file.as_slice())? {
         Examined::Broken(fault) => Ok(Staged::Refused(refuse_format(library.alloc, fault)?)),
-        Examined::Accepted(measure) => stage_accepted(library, file.as_slice(), &measure, vault),
+        Examined::Accepted(measured, summary) => {
+            stage_accepted(library, file.as_slice(), &measured, summary, vault)
+        }
     }
 }
 
@@ -57,10 +59,12 @@ fn stage_import<V: Vault>(
 fn stage_accepted<V: Vault>(
     library: &mut Library,
     file: &[u8],
-    measure: &Measure,
+    measured: &Measured,
+    summary: Summary,
     vault: &mut V,
 ) -> Result<Staged, Memory>
-    ensures accepted { IfOk result (StagesAccepted (kept_tables library.old) file.now measure.now
+    requires { AreEnergies measured.now.energies }
+    ensures accepted { IfOk result (StagesAccepted (kept_tables library.old) file.now measured.now summary
         (V.shown vault.old).faults (V.shown vault.new).faults) }
     ensures stages { Stages (Command.Import file.now) library.old library.new (V.shown vault.old) (V.shown vault.new) result }
     ensures untouched { LeavesUnlessFailed result vault.old vault.new }
@@ -69,7 +73,7 @@ fn stage_accepted<V: Vault>(
     if has_no_number(library) {
         return Ok(Staged::Refused(refuse(alloc, Refusal::Ids)?));
     }
-    let ready = prepare_import(library, file, measure)?;
+    let ready = prepare_import(library, file, measured, summary)?;
     match vault.put(library.next_take, file) {
         Ok(()) => Ok(Staged::Ready(ready)),
         Err(Outside::Failed) => Ok(Staged::Refused(refuse(alloc, Refusal::Vault)?)),

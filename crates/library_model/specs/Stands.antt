@@ -1,8 +1,9 @@
 -- What tables and blobs stand for.
-use Rattle.std.specs.Prelude.{◌≡◌, List, [], None, Some, length, map, fold}
+use Rattle.std.specs.Prelude.{◌≡◌, ℕ, List, [], None, Some, length, map, fold}
 use Rattle.std.specs.List.{AllByRecursion}
 use Rattle.md5.specs.Md5.{md5}
 use Rattle.lib_base.specs.declared.files.Kind.TheVariants.{Wave}
+use Rattle.lib_base.specs.declared.files.Summary.{Summary}
 use Rattle.keeper_store.specs.Blobs.{Blobs}
 use Rattle.keeper_store.specs.declared.contents.Tables.{Tables}
 use Rattle.keeper_store.specs.declared.row_types.RecordingRow.{RecordingRow}
@@ -12,19 +13,23 @@ use Rattle.keeper_store.specs.Puts.{put, segments_less}
 use Rattle.library_model.specs.Findings.{energies_of}
 use Rattle.library_model.specs.State.{Recording, State, IsValid}
 
--- the row of a recording, with the MD5 of its file (RFC 1321)
-abbrev pub recording_row : Recording → RecordingRow
-recording_row r = record {
-  id = r.id;
+-- the row of a wave file's recording: its id and take, its channels, the bits of a sample, the MD5 of the file (RFC 1321), its levels
+abbrev pub wave_row : ℕ → ℕ → ℕ → ℕ → List ℕ → Summary → RecordingRow
+wave_row id take channels depth file summary = record {
+  id = id;
   album = None;
   name = [];
-  take = r.take;
+  take = take;
   kind = Wave;
-  channels = length r.sound.lists;
-  depth = r.sound.depth;
-  digest = md5 r.file;
-  summary = r.summary;
+  channels = channels;
+  depth = depth;
+  digest = md5 file;
+  summary = summary;
 }
+
+-- the row of a recording
+abbrev pub recording_row : Recording → RecordingRow
+recording_row r = wave_row r.id r.take (length r.sound.lists) r.sound.depth r.file r.summary
 
 -- the row of the energies of a recording's segments, 11 bytes each
 abbrev pub segment_row : Recording → SegmentRow

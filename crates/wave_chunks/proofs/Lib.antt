@@ -1,5 +1,5 @@
-pub mod Copies
 pub mod Filling
+pub mod Holding
 pub mod Locating
 pub mod Naming
 pub mod Parting

@@ -7,8 +7,8 @@ use Rattle.library_model.specs.declared.messages.Question.{Question}
 use Rattle.library_model.specs.declared.messages.Question.TheVariants as about
 use Rattle.library_model.specs.declared.messages.Reply.{Reply}
 use Rattle.library_model.specs.Machine.{question_reply}
-use Rattle.catalogue_core.specs.Asking.{row_reply}
-use Rattle.catalogue_core.proofs.FoundRows.{row_reply-rows}
+use Rattle.catalogue_core.specs.Asking.{found_row_reply}
+use Rattle.catalogue_core.proofs.FoundRows.{found_row_reply-rows}
 use Rattle.catalogue_core.proofs.asking.ask.Goals as goal
 
 -- the id that is asked for
@@ -25,7 +25,7 @@ returns-clause-answers g c = λ s keeps.
     let is = of_its_id c.args.question.now in
     let id = id_of c.args.question.now in
     let answered = rw is at c.ask_recording.ensures in
-    let looked_up : List RecordingRow → Reply = λ rows. row_reply (find (λ (row : RecordingRow). row.id == id) rows) in
-    let told = ap looked_up (ap (λ (t : Tables). t.recordings) keeps.rows) ∙ row_reply-rows id s.recordings in
+    let looked_up : List RecordingRow → Reply = λ rows. found_row_reply (find (λ (row : RecordingRow). row.id == id) rows) in
+    let told = ap looked_up (ap (λ (t : Tables). t.recordings) keeps.rows) ∙ found_row_reply-rows id s.recordings in
     rw is (IfOk-weaker c.ask_recording.result (λ reply. reply ≡ looked_up c.args.library.now.recordings.items)
     (λ reply. reply ≡ question_reply s (about.Recording id)) (λ reply same. same ∙ told) answered)

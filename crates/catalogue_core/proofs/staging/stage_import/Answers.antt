@@ -17,6 +17,6 @@ returns-clause-staged g c = λ s keeps.
     let stages = rw (c.as_slice-in-Accepted.ensures, keeps.rows) at c.stage_accepted.ensures.accepted in
     let before = (g.V.Vault.shown c.args.vault.now).faults in
     let now = (g.V.Vault.shown c.stage_accepted.new.vault).faults in
-    IfOk-weaker c.stage_accepted.result (StagesAccepted (tables_of s) c.args.file c.in-Accepted.measure before now)
+    IfOk-weaker c.stage_accepted.result (StagesAccepted (tables_of s) c.args.file c.in-Accepted.measured c.in-Accepted.summary before now)
     (StagedFrom s (record { command = Import c.args.file }) before now)
-    (λ staged h. StagedFrom-accepted s c.args.file found.0 c.in-Accepted.measure before now staged keeps.valid found.1 found.2 h) stages
+    (λ staged h. StagedFrom-accepted s c.args.file found.0 c.in-Accepted.measured c.in-Accepted.summary before now staged keeps.valid found.1 found.2 h) stages

@@ -1,7 +1,7 @@
 use Rattle.std.proofs.Common.{◌∙◌, rules}
 use Rattle.std.specs.Int.{w16, w32}
 use Rattle.std.proofs.lemmas.Int.{to_z-of_z}
-use Rattle.wave_chunks.proofs.Copies.{sample_of_two}
+use Rattle.wave_chunks.proofs.Holding.{sample_of_two}
 use Rattle.wave_chunks.proofs.wave_sounds.sample_16.Goals as goal
 
 pub returns : goal.returns

@@ -1,11 +1,11 @@
-use Rattle.std.proofs.Common.{◌≡◌, ◌≤◌, ◌-◌, ◌∙◌, List, length, ap, sym, subst}
+use Rattle.std.proofs.Common.{◌≡◌, ◌≤◌, ◌-◌, ◌∙◌, length, ap, sym, subst}
 use Rattle.std.specs.Prelude.{codes}
 use Rattle.lib_base.specs.Sounds.{part}
 use Rattle.lib_base.specs.declared.files.Span.{Span}
 use Rattle.file_model.specs.Pcm.{Pcm}
 use Rattle.file_model.proofs.Samples.{IsDepth}
 use Rattle.file_model.proofs.Waves.{IsWave_unique}
-use Rattle.wave_chunks.proofs.Copies.{has_samples, depth_of_read, known_depth, held_is, held_whole, held_sound}
+use Rattle.wave_chunks.proofs.Holding.{has_samples, depth_of_read, known_depth, held_is, held_whole, held_sound}
 use Rattle.wave_chunks.proofs.Locating.{lies}
 use Rattle.wave_chunks.proofs.wave_sounds.WaveSound.over.Goals as goal
 

@@ -48,10 +48,10 @@ counted depth count whole known is =
     ap (λ (n : ℕ). n / (depth / 8)) is ∙ mul-div_cancel_left count (size_positive depth known)
 
 -- what is read from the bytes there are the samples, frame by frame
-pub samples_copied : (bytes content : List ℕ) (wave : Shape) (read : IsReadOf bytes wave) (items : List ℤ) (depth : ℕ)
+held_samples : (bytes content : List ℕ) (wave : Shape) (read : IsReadOf bytes wave) (depth : ℕ)
     → content ≡ part bytes wave.samples.start (wave.samples.end - wave.samples.start) → depth ≡ wave.depth
-    → items ≡ samples_in depth (length content / (depth / 8)) content → items ≡ interleaved read.sound.frames read.sound.lists
-samples_copied bytes content wave read items depth is depth_is copied =
+    → samples_held depth content ≡ interleaved read.sound.frames read.sound.lists
+held_samples bytes content wave read depth is depth_is =
     let sound = read.sound in
     let ys = interleaved sound.frames sound.lists in
     let known : IsDepth sound.depth = read.reads.is_format.depth_known in
@@ -59,17 +59,17 @@ samples_copied bytes content wave read items depth is depth_is copied =
     let written : content ≡ flat_map (sample_bytes sound.depth) ys = is ∙ content_of_read bytes wave read in
     let count : length content / (sound.depth / 8) ≡ length ys =
     counted sound.depth (length ys) (length content) known (ap length written ∙ length-bytes sound.depth ys known) in
-    copied ∙ ap (λ (d : ℕ). samples_in d (length content / (d / 8)) content) to_depth
+    ap (λ (d : ℕ). samples_in d (length content / (d / 8)) content) to_depth
     ∙ ap (λ (n : ℕ). samples_in sound.depth n content) count
     ∙ ap (samples_in sound.depth (length ys)) written
     ∙ samples_in-bytes sound.depth ys known
     (All-interleaved (IsSample sound.depth) sound.frames sound.frames sound.lists (omega arith) read.reads.is_sound.equal read.reads.is_sound.within)
 
--- the channels of copied samples are those of the wave
-pub channels_copied : (sound : Pcm) (items : List ℤ) (channels frames : ℕ) → All (λ xs. length xs ≡ sound.frames) sound.lists
+-- the channels of the wave's samples are those of the wave
+held_channels : (sound : Pcm) (items : List ℤ) (channels frames : ℕ) → All (λ xs. length xs ≡ sound.frames) sound.lists
     → channels ≡ length sound.lists → frames ≡ sound.frames → items ≡ interleaved sound.frames sound.lists
     → first_channels channels channels frames items ≡ sound.lists
-channels_copied sound items channels frames equal channels_is frames_is items_is =
+held_channels sound items channels frames equal channels_is frames_is items_is =
     ap (λ (k : ℕ). first_channels k k frames items) channels_is
     ∙ ap (λ (n : ℕ). first_channels (length sound.lists) (length sound.lists) n items) frames_is
     ∙ ap (λ (ys : List ℤ). first_channels (length sound.lists) (length sound.lists) sound.frames ys) items_is
@@ -80,8 +80,8 @@ pub held_is : (bytes content : List ℕ) (wave : Shape) (read : IsReadOf bytes w
     → content ≡ part bytes wave.samples.start (wave.samples.end - wave.samples.start) → depth ≡ wave.depth → channels ≡ wave.channels
     → frames ≡ wave.frames → channels_held depth channels frames content ≡ read.sound.lists
 held_is bytes content wave read depth channels frames is depth_is channels_is frames_is =
-    channels_copied read.sound (samples_held depth content) channels frames read.reads.is_sound.equal (channels_is ∙ read.channels)
-    (frames_is ∙ read.frames) (samples_copied bytes content wave read (samples_held depth content) depth is depth_is refl)
+    held_channels read.sound (samples_held depth content) channels frames read.reads.is_sound.equal (channels_is ∙ read.channels)
+    (frames_is ∙ read.frames) (held_samples bytes content wave read depth is depth_is)
 
 -- they are as many samples as all channels have
 pub held_whole : (bytes content : List ℕ) (wave : Shape) (read : IsReadOf bytes wave) (depth channels frames : ℕ)
@@ -90,7 +90,7 @@ pub held_whole : (bytes content : List ℕ) (wave : Shape) (read : IsReadOf byte
 held_whole bytes content wave read depth channels frames is depth_is channels_is frames_is =
     let sound = read.sound in
     sym (length-samples_in depth (length content / (depth / 8)) content)
-    ∙ ap length (samples_copied bytes content wave read (samples_held depth content) depth is depth_is refl)
+    ∙ ap length (held_samples bytes content wave read depth is depth_is)
     ∙ length-interleaved sound.frames sound.lists
     ∙ ap (λ (k : ℕ). k * sound.frames) (sym (channels_is ∙ read.channels))
     ∙ ap (λ (n : ℕ). channels * n) (sym (frames_is ∙ read.frames))

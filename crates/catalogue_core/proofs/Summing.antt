@@ -1,4 +1,4 @@
--- How many frames a wave file can hold.
+-- What is measured of a wave file is small enough for its levels to be taken.
 use Rattle.std.proofs.Common.{◌≡◌, ◌∙◌, ◌≤◌, ◌<◌, ◌*◌, ◌/◌, ◌^◌, ℕ, zero, suc, List, [], length, codes, ap, arith}
 use Rattle.file_model.specs.Chunks.{Chunk}
 use Rattle.file_model.specs.Pcm.{Pcm, interleaved}
@@ -7,13 +7,16 @@ use Rattle.file_model.proofs.Interleaving.{length-interleaved}
 use Rattle.file_model.proofs.Makes.{content_named}
 use Rattle.file_model.proofs.Samples.{AreBytes, length-bytes}
 use Rattle.file_model.proofs.Waves.{chunks_of_wave, size_positive}
+use Rattle.sound_model.proofs.EnergyBounds.{length-energies, energies_within}
+use Rattle.sound_model.proofs.PeakBounds.{peak_of_within}
+use Rattle.catalogue_core.specs.Examining.{IsSummable, measured_of}
 
 within_product : (a n : ℕ) → 0 < a → n ≤ a * n
 within_product zero n some = absurd (omega (arith, some))
 within_product (suc a) n some = omega arith
 
 -- a sound's frames are fewer than the bytes that its samples take, which a chunk's length field can say
-pub frames_fit : (bytes : List ℕ) (chunks : List Chunk) (sound : Pcm) → AreBytes bytes → IsWaveOf bytes chunks sound → sound.frames < 2 ^ 32
+frames_fit : (bytes : List ℕ) (chunks : List Chunk) (sound : Pcm) → AreBytes bytes → IsWaveOf bytes chunks sound → sound.frames < 2 ^ 32
 frames_fit bytes chunks sound are wave =
     let begins = chunks_of_wave bytes chunks sound wave in
     let content = content_named bytes chunks (codes "data") wave.data_chunk [] are begins wave.one_data in
@@ -25,3 +28,17 @@ frames_fit bytes chunks sound are wave =
     let each = within_product (length sound.lists) sound.frames wave.is_sound.has_channel in
     let all = within_product (sound.depth / 8) count (size_positive sound.depth known) in
     omega (arith, each, all, long, content.short)
+
+few_segments : (frames count : ℕ) → count ≡ frames / 4800 → frames < 2 ^ 32 → count ≤ 2 ^ 25
+few_segments frames count is fit = omega (arith, is, fit)
+
+pub wave_summable : (bytes : List ℕ) (chunks : List Chunk) (sound : Pcm) → AreBytes bytes → IsWaveOf bytes chunks sound
+    → IsSummable (measured_of sound)
+wave_summable bytes chunks sound are wave =
+    let is = wave.is_sound in
+    record {
+      segments = energies_within sound.depth sound.frames sound.lists is.has_channel is.few_channels;
+      few =
+          few_segments sound.frames _ (length-energies sound.depth sound.frames sound.lists) (frames_fit bytes chunks sound are wave);
+      peak = peak_of_within sound.depth sound.frames sound.lists is.least_depth is.greatest_depth is.within;
+    }
