@@ -1,3 +1,4 @@
+pub mod FrameLaws
 pub mod Interleaving
 pub mod Makes
 pub mod Pairings
@@ -9,4 +10,5 @@ pub mod Spellings
 pub mod Waves
 mod WorkedBits
 mod WorkedFields
+mod WorkedFrames
 pub mod WorkedPredictions
