@@ -1,3 +1,4 @@
+pub mod FrameLaws
 pub mod Interleaving
 pub mod Makes
 pub mod Pairings
@@ -11,4 +12,5 @@ pub mod BitsLemmas
 pub mod FieldsLemmas
 mod WorkedBits
 mod WorkedFields
+mod WorkedFrames
 pub mod WorkedPredictions
