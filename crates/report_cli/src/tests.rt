@@ -196,7 +196,7 @@ fn outcome_of(
 ) -> Result<Outcome, Memory> {
     let mut source = MemSource::new(Bytes::of(input), calls(alloc, fault.of_source())?);
     let mut sink = MemSink::new(alloc, calls(alloc, fault.of_sink())?);
-    let mut keeper = MemKeeper::new(alloc, tables, calls(alloc, fault.of_keeper())?);
+    let mut keeper = MemKeeper::new(tables, calls(alloc, fault.of_keeper())?);
     let mut vault = MemVault::new(alloc, calls(alloc, fault.of_vault())?);
     let mut door = MemDoor::new(alloc, Vec::new(alloc), Vec::new(alloc))?;
     let status = run(
