@@ -1,11 +1,11 @@
 //! Where tables are kept.
-ghost use Rattle.std.specs.Prelude.{◌≡◌, ◌↔◌, Some, IsErrOf, OnOk};
+ghost use Rattle.std.specs.Prelude.{◌≡◌, ◌↔◌, Some, IsErrOf, IfOk, OnOk};
 ghost use Rattle.keeper_store.specs.Keepers.{Loads, Applies};
 ghost use Rattle.lib_base.specs.Plan.{CountsCall, IsDue};
 
 use crate::mem_tables::MemTables;
 use crate::{Batch, Tables};
-use lib_base::{FaultPlan, Outside};
+use lib_base::{FaultPlan, Memory, Outside};
 
 /// A keeper of tables.
 pub trait Keeper {
