@@ -1,6 +1,10 @@
--- Bytes have at most one outcome as a frame: one that is a frame is broken by no rule, and its samples are one.
-use Rattle.std.proofs.Common.{◌≡◌, ◌*◌, ◌^◌, ◌⊎◌, inl, inr, ℕ, List, [], ◌∷◌, Option, None, Some, refl, ap, sym, ◌∙◌, subst}
-use Rattle.std.specs.Prelude.{ℤ, pos, ◌*ℤ◌, map, Bool, Result, Ok, Err}
+-- Bytes have at most one outcome as a frame: one that is a frame is broken by no rule, and its
+-- samples are one.
+use Rattle.std.proofs.Common.{◌≡◌, ◌*◌, ◌^◌, ◌⊎◌, inl, inr, ℕ, List, [], ◌∷◌, Option, None, Some, refl, ap, sym, ◌∙◌, subst, arith}
+use Rattle.std.specs.Prelude.{ℤ, pos, ◌*ℤ◌, ◌-ℤ◌, map, All, Bool, Result, Ok, Err}
+use Rattle.std.proofs.lemmas.Int.{ints}
+use Rattle.lib_base.specs.Sounds.{IsSample}
+use Rattle.file_model.specs.Predict.{at, weighted_before, predicted, Spells}
 use Rattle.file_model.specs.declared.flac_info.Info.{Info}
 use Rattle.file_model.specs.declared.flac_rules.FlacRule.TheVariants.{OutOfRange}
 use Rattle.file_model.specs.declared.pairs.Stereo.{Stereo}
@@ -39,6 +43,9 @@ finds_decides Holds fault once (Ok one) (Ok other) h k = ap Ok (once one other h
 finds_decides Holds fault once (Ok one) (Err rule) h k = absurd (k.0 one h)
 finds_decides Holds fault once (Err rule) (Ok other) h k = absurd (h.0 other k)
 finds_decides Holds fault once (Err one) (Err other) h k = ap Err (h.1 ∙ sym k.1)
+
+less_none : (x : ℤ) → x ≡ x -ℤ pos 0
+less_none x = omega (arith, ints)
 
 -- a coded subframe spells one list of samples
 pub IsSpelledBy_unique : (depth : ℕ) (coded : Coded) → HoldsOnce (IsSpelledBy depth coded)
@@ -79,3 +86,13 @@ Body_decides info bytes header =
 -- bytes have at most one outcome: a frame, whose samples are one, or one rule
 pub Frame_decides : (info : Info) (bytes : List ℕ) → HoldsOnce (Frame info bytes)
 Frame_decides info bytes = then_decides _ _ (is_decides (header_at info bytes)) (Body_decides info bytes)
+
+-- a list that is coded as it is spells itself
+pub Spells-plain : (depth : ℕ) (xs : List ℤ) → All (IsSample depth) xs → Spells [] 0 depth xs xs
+unfolding weighted_before predicted
+Spells-plain depth xs within = record {
+  as_many = refl;
+  warm_up = λ place none. absurd (omega (arith, none));
+  residual = λ place behind inside. less_none (at xs place);
+  within = within;
+}

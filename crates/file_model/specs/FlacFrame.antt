@@ -34,16 +34,17 @@ abbrev pub IsPairOf : Stereo → ℕ → List ℤ → List ℤ → List (List �
 IsPairOf kind depth first second lists =
     (left : List ℤ) × (right : List ℤ) × (lists ≡ left ∷ right ∷ []) × SpellsPair kind depth left right first second
 
--- The channels of the sound: as they stand, or left and right where two channels stand for them. They are refused where they
--- spell none (section 4.2).
+-- The channels of the sound: as they stand, or left and right where two channels stand for them.
+-- They are refused where they spell none (section 4.2).
 abbrev pub Sounding : Option Stereo → ℕ → List (List ℤ) → Result (List (List ℤ)) FlacRule → Type 0
 Sounding None depth lists = Is (Ok lists)
 Sounding (Some kind) depth [] = Is (Ok [])
 Sounding (Some kind) depth (first ∷ []) = Is (Ok (first ∷ []))
 Sounding (Some kind) depth (first ∷ second ∷ others) = Finds (IsPairOf kind depth first second) OutOfRange
 
--- The footer: zeros up to a whole byte, and the check over all bytes of the frame before it (section 9.3). Given are the bytes from
--- the frame's start on, and those of their bits that stand behind the subframes.
+-- The footer: zeros up to a whole byte, and the check over all bytes of the frame before it
+-- (section 9.3). Given are the bytes from the frame's start on, and those of their bits that stand
+-- behind the subframes.
 unfoldable pub footer_at : List ℕ → List Bool → Result ℕ FlacRule
 footer_at bytes rest = do
   _ ← holds (align_at rest).0 FrameCheck
@@ -58,6 +59,7 @@ Body info bytes header =
     Then (Sounding header.stereo info.depth coded.0) (λ lists.
     Then (Is (footer_at bytes coded.1)) (λ end. Is (Ok (record { lists = lists; length = end })))))
 
--- What stands at the start of the bytes: a frame, with the samples of its channels and its length, or the rule that is broken first.
+-- What stands at the start of the bytes: a frame, with the samples of its channels and its length,
+-- or the rule that is broken first.
 abbrev pub Frame : Info → List ℕ → Result FlacFrame FlacRule → Type 0
 Frame info bytes = Then (Is (header_at info bytes)) (Body info bytes)

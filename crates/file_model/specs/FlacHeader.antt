@@ -1,5 +1,5 @@
--- The header of a FLAC frame (RFC 9639 section 9.1). What is read is a value and the bits behind it, or the rule that is
--- broken first, in the order of the bits.
+-- The header of a FLAC frame (RFC 9639 section 9.1). What is read is a value and the bits behind
+-- it, or the rule that is broken first, in the order of the bits.
 use Rattle.std.specs.Prelude.{◌+◌, ◌-◌, ◌*◌, ◌/◌, ◌^◌, ◌==◌, ℕ, Bool, not, nat_lt, nat_le, if◌then◌else◌, List, length, take, Option, None, Some, Result, Ok, Err}
 use Rattle.file_model.specs.declared.bits.BitFault.{BitFault}
 use Rattle.file_model.specs.declared.bits.BitFault.TheVariants.{Cut, BadNumber}
@@ -48,7 +48,8 @@ codes_at bits = do
   _ ← holds (reserved.0 == 0) ReservedBit
   Ok (record { size = size.0; rate = rate.0; channels = channels.0; depth = depth.0 }, reserved.1)
 
--- the number of samples of each channel, which may stand behind the coded number (sections 9.1.1 and 9.1.6)
+-- the number of samples of each channel, which may stand behind the coded number (sections 9.1.1
+-- and 9.1.6)
 unfoldable pub size_at : ℕ → List Bool → Result (ℕ × List Bool) FlacRule
 size_at code bits =
     if code == 1 then Ok (192, bits)
@@ -77,7 +78,8 @@ named_rate code =
     else if code == 10 then 48000
     else 96000
 
--- the frames a second, which may be STREAMINFO's or stand behind the block's size (sections 9.1.2 and 9.1.7)
+-- the frames a second, which may be STREAMINFO's or stand behind the block's size (sections 9.1.2
+-- and 9.1.7)
 unfoldable pub rate_at : ℕ → ℕ → List Bool → Result (ℕ × List Bool) FlacRule
 rate_at own code bits =
     if code == 0 then Ok (own, bits)
@@ -114,7 +116,8 @@ depth_of own code =
     else if code == 6 then 24
     else 32
 
--- the samples of each channel, how two channels stand for left and right, and the bytes of the header
+-- the samples of each channel, how two channels stand for left and right, and the bytes of the
+-- header
 pub record FlacHeader : Type 0 where
   pub block : ℕ
   pub stereo : Option Stereo
@@ -124,8 +127,8 @@ pub record FlacHeader : Type 0 where
 abbrev pub bytes_before : List ℕ → List Bool → ℕ
 bytes_before bytes rest = length bytes - length rest / 8
 
--- The header of a frame of a file of this information, at the start of the bytes. The coded number is not consulted (sections
--- 9.1.5 and 9.1.8).
+-- The header of a frame of a file of this information, at the start of the bytes. The coded number
+-- is not consulted (sections 9.1.5 and 9.1.8).
 unfoldable pub header_at : Info → List ℕ → Result FlacHeader FlacRule
 header_at info bytes = do
   codes ← codes_at (bits bytes)

@@ -8,7 +8,8 @@ use Rattle.file_model.specs.Fields.{field, signed_field, unary_at, rice_at}
 use Rattle.file_model.specs.Outcomes.{◌>>=◌, holds, times_at, Is, Then, Finds}
 use Rattle.file_model.specs.Predict.{fixed_weights, Spells}
 
--- the ways to code a channel: each sample the same, each sample as it is, or by a predictor of an order (section 9.2.1)
+-- the ways to code a channel: each sample the same, each sample as it is, or by a predictor of an
+-- order (section 9.2.1)
 pub data Coding : Type 0 where
   constant : Coding
   verbatim : Coding
@@ -43,8 +44,8 @@ wasted_at bits = do
       more ← of_frame (unary_at behind)
       Ok (more.0 + 1, more.1)
 
--- The head of a subframe of so many samples of so many bits: how it is coded, and its wasted bits, fewer than a sample has
--- (sections 9.2.1 and 9.2.2).
+-- The head of a subframe of so many samples of so many bits: how it is coded, and its wasted bits,
+-- fewer than a sample has (sections 9.2.1 and 9.2.2).
 unfoldable pub subframe_head_at : ℕ → ℕ → List Bool → Result ((Coding × ℕ) × List Bool) FlacRule
 subframe_head_at block depth bits = do
   first ← of_frame (field 1 bits)
@@ -56,7 +57,8 @@ subframe_head_at block depth bits = do
   _ ← holds (nat_lt wasted.0 depth) WastedBits
   Ok ((coding, wasted.0), wasted.1)
 
--- a number as it is folded into one with no sign: even ones stand for 0, 1, 2 .., odd ones for -1, -2 .. (section 9.2.7.2)
+-- a number as it is folded into one with no sign: even ones stand for 0, 1, 2 .., odd ones for -1,
+-- -2 .. (section 9.2.7.2)
 abbrev pub unfolded : ℕ → ℤ
 unfolded n = if n % 2 == 0 then pos (n / 2) else neg_ℤ (pos ((n + 1) / 2))
 
@@ -67,8 +69,8 @@ residual_at low bits = do
   _ ← holds (nat_lt (unsigned_abs (unfolded folded.0)) (2 ^ 31)) OutOfRange
   Ok (unfolded folded.0, folded.1)
 
--- So many residuals of a partition, whose parameter has so many bits. All ones say that they are plain numbers of a width that
--- follows (sections 9.2.7 and 9.2.7.1).
+-- So many residuals of a partition, whose parameter has so many bits. All ones say that they are
+-- plain numbers of a width that follows (sections 9.2.7 and 9.2.7.1).
 unfoldable pub partition_at : ℕ → ℕ → List Bool → Result (List ℤ × List Bool) FlacRule
 partition_at bits_of_parameter count bits = do
   parameter ← of_frame (field bits_of_parameter bits)
@@ -87,8 +89,8 @@ partitions_at bits_of_parameter size (suc many) bits = do
   others ← partitions_at bits_of_parameter size many first.1
   Ok (first.0 ++ others.0, others.1)
 
--- The residuals behind a predictor's warm-up of so many samples: equal parts of the block, of which the first is shorter by the
--- warm-up (section 9.2.7).
+-- The residuals behind a predictor's warm-up of so many samples: equal parts of the block, of which
+-- the first is shorter by the warm-up (section 9.2.7).
 unfoldable pub residuals_at : ℕ → ℕ → List Bool → Result (List ℤ × List Bool) FlacRule
 residuals_at block order bits = do
   method ← of_frame (field 2 bits)
@@ -99,8 +101,8 @@ residuals_at block order bits = do
   others ← partitions_at (4 + method.0) (block / 2 ^ power.0) (2 ^ power.0 - 1) first.1
   Ok (first.0 ++ others.0, others.1)
 
--- A subframe as it is coded: the weights and the shift of its predictor (none where samples stand for themselves), the numbers
--- that stand for the samples, and the wasted bits.
+-- A subframe as it is coded: the weights and the shift of its predictor (none where samples stand
+-- for themselves), the numbers that stand for the samples, and the wasted bits.
 pub record Coded : Type 0 where
   pub weights : List ℤ
   pub shift : ℕ
@@ -121,7 +123,8 @@ predictor_at order bits = do
   weights ← samples_at (precision.0 + 1) order shift.1
   Ok ((unsigned_abs shift.0, weights.0), weights.1)
 
--- what a subframe codes of a block of samples of so many bits, wasted ones not counted (sections 9.2.3 to 9.2.6)
+-- what a subframe codes of a block of samples of so many bits, wasted ones not counted (sections
+-- 9.2.3 to 9.2.6)
 unfoldable pub content_at : Coding → ℕ → ℕ → ℕ → List Bool → Result (Coded × List Bool) FlacRule
 content_at constant block depth wasted bits = do
   sample ← of_frame (signed_field depth bits)
@@ -145,14 +148,15 @@ subframe_at block depth bits = do
   head ← subframe_head_at block depth bits
   content_at head.0.0 block (depth - head.0.1) head.0.1 head.1
 
--- The samples of a channel: those that the coded numbers spell within the depth less the wasted bits, with as many bits of 0
--- behind each (section 9.2.2).
+-- The samples of a channel: those that the coded numbers spell within the depth less the wasted
+-- bits, with as many bits of 0 behind each (section 9.2.2).
 pub record IsSpelledBy (depth : ℕ) (coded : Coded) (samples : List ℤ) : Type 0 where
   pub spelled : List ℤ
   pub spells : Spells coded.weights coded.shift (depth - coded.wasted) spelled coded.numbers
   pub shifted : samples ≡ map (λ (s : ℤ). s *ℤ pos (2 ^ coded.wasted)) spelled
 
--- One channel: a subframe, and the samples that it spells, with the bits behind it. It is refused where it spells none.
+-- One channel: a subframe, and the samples that it spells, with the bits behind it. It is refused
+-- where it spells none.
 abbrev pub Channel : ℕ → ℕ → List Bool → Result (List ℤ × List Bool) FlacRule → Type 0
 Channel block depth bits =
     Then (Is (subframe_at block depth bits)) (λ coded.
