@@ -100,17 +100,17 @@ pub SpellsPair_unique : (kind : Stereo) (xs ys xs' ys' first second : List ℤ) 
     → SpellsPair kind depth xs' ys' first second → (xs ≡ xs') × (ys ≡ ys')
 SpellsPair_unique kind xs ys xs' ys' first second depth one other = (
   same_lists xs xs' (one.as_many_left ∙ sym other.as_many_left)
-  (λ k d inside.
-  let here : k < length first = omega (arith, inside, one.as_many_left) in
-  get_or_default xs k d (pos 0) inside
-  ∙ (IsPair_unique kind (at xs k) (at ys k) (at xs' k) (at ys' k) (at first k) (at second k) (one.pairs k here) (other.pairs k here)).0
-  ∙ get_or_default xs' k (pos 0) d (omega (arith, here, other.as_many_left))),
+      (λ k d inside.
+      let here : k < length first = omega (arith, inside, one.as_many_left) in
+      get_or_default xs k d (pos 0) inside
+      ∙ (IsPair_unique kind (at xs k) (at ys k) (at xs' k) (at ys' k) (at first k) (at second k) (one.pairs k here) (other.pairs k here)).0
+      ∙ get_or_default xs' k (pos 0) d (omega (arith, here, other.as_many_left))),
   same_lists ys ys' (one.as_many_right ∙ sym other.as_many_right)
-  (λ k d inside.
-  let here : k < length first = omega (arith, inside, one.as_many_right) in
-  get_or_default ys k d (pos 0) inside
-  ∙ (IsPair_unique kind (at xs k) (at ys k) (at xs' k) (at ys' k) (at first k) (at second k) (one.pairs k here) (other.pairs k here)).1
-  ∙ get_or_default ys' k (pos 0) d (omega (arith, here, other.as_many_right))),
+      (λ k d inside.
+      let here : k < length first = omega (arith, inside, one.as_many_right) in
+      get_or_default ys k d (pos 0) inside
+      ∙ (IsPair_unique kind (at xs k) (at ys k) (at xs' k) (at ys' k) (at first k) (at second k) (one.pairs k here) (other.pairs k here)).1
+      ∙ get_or_default ys' k (pos 0) d (omega (arith, here, other.as_many_right))),
 )
 
 -- ---- the pairs in turn
