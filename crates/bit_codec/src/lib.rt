@@ -6,11 +6,8 @@
 //! polynomial. Nothing takes memory.
 #![tactic(auto)]
 
-
 mod reader;
-
 mod windows;
-
 
 pub use file_model::BitFault;
 pub use reader::BitReader;
