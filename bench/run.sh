@@ -2,11 +2,14 @@
 # Times the proved meters, and what decodes FLAC, beside plain C of the same definitions (gcc -O2) on the
 # same samples, compares their checksums, and prints the median of the ratios of their processor times.
 #
-# usage: bench/run.sh [RUNS]
+# With another program, as it was built before a change, it times an import by both.
+#
+# usage: bench/run.sh [RUNS [BEFORE]]
 # It is run by hand on a machine that does nothing else; it tests nothing.
 set -eu
 cd "$(dirname "$0")/.."
 runs=${1:-9}
+before=${2:-}
 work=$(mktemp -d)
 trap 'rm -rf "$work"' EXIT
 
@@ -18,6 +21,7 @@ gcc -O2 -DFAST -o "$work/filter_fast" bench/filter.c
 gcc -O2 -o "$work/filter_plain" bench/filter.c
 gcc -O2 -o "$work/peak" bench/peak.c
 gcc -O2 -o "$work/predict" bench/predict.c
+gcc -O2 -o "$work/fill" bench/fill.c
 
 # seconds of processor time, and what the program printed in the file `sum`
 timed() {
@@ -49,7 +53,48 @@ compare "$meters" filter 1000 48000 "$work/filter_fast" "C with the same floor d
 compare "$meters" filter 200 48000 "$work/filter_plain" "C with the division of 128 bits"
 compare "$meters" peak 200 48000 "$work/peak" "C"
 compare "$meters" fading 200 48000 "$work/peak" "C (the peak of noise that fades four times a second)"
+compare "$meters" fill16 20000 48000 "$work/fill" "C (samples of 16 bits out of a wave of two channels)"
+compare "$meters" fill24 20000 48000 "$work/fill" "C (samples of 24 bits out of a wave of two channels)"
 compare "$flac" fixed 40000 4096 "$work/predict" "C"
 compare "$flac" linear8 20000 4096 "$work/predict" "C"
 compare "$flac" linear12 20000 4096 "$work/predict" "C"
 compare "$flac" linear32 10000 4096 "$work/predict" "C"
+
+# ---- a session of one import that nearly fills the input's limit: a wave of noise, two channels of 16 bits
+
+# a number as four bytes, the lowest first
+number() {
+    local i
+    for ((i = 0; i < 32; i += 8)); do printf "\\x$(printf %02x $(($1 >> i & 255)))"; done
+}
+
+data=1048000
+{
+    printf 'POST /recordings HTTP/1.1\r\nContent-Length: %d\r\n\r\nRIFF' $((44 + data))
+    number $((36 + data))
+    printf 'WAVEfmt \x10\0\0\0\x01\0\x02\0\x80\xbb\0\0\0\xee\x02\0\x04\0\x10\0data'
+    number $data
+    head -c $data /dev/urandom
+} >"$work/import.http"
+
+# the same session, 20 times
+imports() {
+    local run
+    for ((run = 0; run < 20; run++)); do "$1" session <"$work/import.http"; done
+}
+
+# what the program is, and the program
+import_time() {
+    local seconds
+    imports "$2" >"$work/reply"
+    if [ "$(head -c 12 "$work/reply")" != 'HTTP/1.1 201' ]; then
+        echo "an import by $2 is not accepted" >&2
+        exit 1
+    fi
+    seconds=$(timed imports "$2")
+    awk -v name="$1" -v seconds="$seconds" \
+        'BEGIN { printf "an import of 1 MiB, %s: %.1f ms\n", name, seconds / 20 * 1000 }'
+}
+
+if [ -n "$before" ]; then import_time 'by the program before' "$before"; fi
+import_time 'by this program' ./loudlib

@@ -1,17 +1,23 @@
-//! Meters a second of generated samples over and over, for `bench/run.sh` to time.
+//! Meters a second of generated samples, or fills from a wave of them, over and over, for
+//! `bench/run.sh` to time.
 //!
 //! The words are the meter and how many rounds to make. It prints what a plain C program of the same
-//! definition prints too: of the filter a checksum of the last round, of the peak the peak.
+//! definition prints too: of the filter a checksum of the last round, of the peak the peak, of the
+//! wave a checksum of the last piece and of the first samples of all.
 #![tactic(auto)]
 
 ghost use Rattle.std.specs.Prelude.{◌<◌, IfOk, All};
 ghost use Rattle.lib_base.specs.Sounds.{IsSample};
+
+mod waves;
 
 use anyhow::{Result, bail};
 use k_filter::Filter;
 use std::alloc::{AllocError, Global};
 use std::env;
 use true_peak::PeakMeter;
+use wave_chunks::WaveSound;
+use waves::{fill_rounds, stereo_noise};
 
 /// How many samples a round has.
 const ROUND: usize = 48_000;
@@ -28,6 +34,8 @@ fn main(rt: HostRuntime) -> Result<()> {
         "filter" => filtered(alloc, samples.as_slice(), rounds)?,
         "peak" => peak_of_rounds(samples.as_slice(), rounds),
         "fading" => peak_of_rounds(faded(alloc, samples.as_slice())?.as_slice(), rounds),
+        "fill16" => filled(alloc, 16, rounds)?,
+        "fill24" => filled(alloc, 24, rounds)?,
         _ => bail!("no such meter"),
     };
     println!(rt; "{checksum}")?;
@@ -83,6 +91,17 @@ fn filtered(alloc: Global, samples: &[i32], rounds: u32) -> Result<u64, AllocErr
         filter.feed(samples, 16, out.as_mut_slice());
     }
     Ok(checksum(out.as_slice()))
+}
+
+/// Fills from a wave of so many bits a sample, so many times over.
+fn filled(alloc: Global, depth: u8, rounds: u32) -> Result<u64> {
+    let bytes = stereo_noise(alloc, depth)?;
+    let Ok(wave) = wave_chunks::read(alloc, bytes.as_slice()) else {
+        bail!("no wave");
+    };
+    let sound = WaveSound::over(bytes.as_slice(), &wave);
+    let (last, sum) = fill_rounds(alloc, &sound, rounds)?;
+    Ok(checksum(last.as_slice()).wrapping_add(sum))
 }
 
 /// The peak of the samples so many times over.
