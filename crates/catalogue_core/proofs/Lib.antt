@@ -1,4 +1,3 @@
-pub mod Changing
 pub mod Deciding
 pub mod FoundRows
 pub mod Greatest

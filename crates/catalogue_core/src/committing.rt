@@ -33,12 +33,12 @@ pub fn commit<D: Keeper>(library: &mut Library, ready: Prepared, keeper: &mut D)
 }
 
 /// Makes changes of which the first is made first, in the room that there is.
-fn make_changes(library: &mut Library, mut changes: Vec<Change>)
+fn make_changes(library: &mut Library, changes: Vec<Change>)
     requires { HasRoom library.old (length changes.items) }
     ensures { kept_tables library.new ≡ changed_all changes.items (kept_tables library.old) }
 {
-    while !changes.is_empty() {
-        make_change(library, changes.remove(0));
+    for change in changes {
+        make_change(library, change);
     }
 }
 

@@ -25,6 +25,7 @@ pub fn prepare_import(
     ensures fits { IfOk result (Fits library.new) }
 {
     let alloc = library.alloc;
+    // `commit` wants room for as many rows as the batch has changes: in each table, whatever they put.
     library.recordings.reserve(3)?;
     library.segments.reserve(3)?;
     let described = Described {

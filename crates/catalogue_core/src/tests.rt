@@ -55,7 +55,7 @@ fn a_library_opens_over_empty_tables_alone(rt: HostRuntime) -> Result<(), Fail> 
     ] {
         let mut tables = Tables::empty(alloc);
         tables.next_album = next_album;
-        let mut keeper = MemKeeper::new(alloc, tables, [failing].to_vec(alloc)?);
+        let mut keeper = MemKeeper::new(tables, [failing].to_vec(alloc)?);
         let opened = Library::open(alloc, &mut keeper);
         assert_eq!(rt;
             opened.err(),
@@ -72,7 +72,7 @@ fn imports_are_answered_in_turn(rt: HostRuntime) -> Result<(), Fail> {
     let alloc = rt.alloc();
     let mut stereo = FOUR;
     stereo[22] = 2;
-    let mut keeper = MemKeeper::new(alloc, Tables::empty(alloc), [2].to_vec(alloc)?);
+    let mut keeper = MemKeeper::new(Tables::empty(alloc), [2].to_vec(alloc)?);
     let mut vault = MemVault::new(alloc, [1].to_vec(alloc)?);
     let mut library = Library::open(alloc, &mut keeper)?;
     for (file, status, body) in [
@@ -124,7 +124,7 @@ fn imports_are_answered_in_turn(rt: HostRuntime) -> Result<(), Fail> {
 #[test]
 fn an_import_is_kept(rt: HostRuntime) -> Result<(), Fail> {
     let alloc = rt.alloc();
-    let mut keeper = MemKeeper::new(alloc, Tables::empty(alloc), Vec::new(alloc));
+    let mut keeper = MemKeeper::new(Tables::empty(alloc), Vec::new(alloc));
     let mut vault = MemVault::new(alloc, Vec::new(alloc));
     let mut library = Library::open(alloc, &mut keeper)?;
     let reply = import(&mut library, FOUR.as_slice(), &mut keeper, &mut vault)?;
@@ -153,7 +153,7 @@ fn an_import_is_kept(rt: HostRuntime) -> Result<(), Fail> {
 #[test]
 fn a_question_is_answered_from_the_rows(rt: HostRuntime) -> Result<(), Fail> {
     let alloc = rt.alloc();
-    let mut keeper = MemKeeper::new(alloc, Tables::empty(alloc), Vec::new(alloc));
+    let mut keeper = MemKeeper::new(Tables::empty(alloc), Vec::new(alloc));
     let mut vault = MemVault::new(alloc, Vec::new(alloc));
     let mut library = Library::open(alloc, &mut keeper)?;
     import(&mut library, FOUR.as_slice(), &mut keeper, &mut vault)?;

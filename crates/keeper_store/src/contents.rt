@@ -56,7 +56,7 @@ impl Clone for Tables {
 }
 
 /// One change of the tables. A put replaces the row of its id or take.
-#[derive(Clone, Debug, Drop)]
+#[derive(Debug, Drop)]
 pub enum Change {
     Counters {
         next_album: u32,
@@ -65,6 +65,26 @@ pub enum Change {
     },
     PutRecording(RecordingRow),
     PutSegments(SegmentRow),
+}
+
+impl Clone for Change {
+    ghost is_clone = { λ change copy. copy ≡ change };
+
+    fn clone(&self) -> Result<Change, AllocError> {
+        match self {
+            Change::Counters {
+                next_album,
+                next_recording,
+                next_take,
+            } => Ok(Change::Counters {
+                next_album: *next_album,
+                next_recording: *next_recording,
+                next_take: *next_take,
+            }),
+            Change::PutRecording(row) => Ok(Change::PutRecording(row.clone()?)),
+            Change::PutSegments(row) => Ok(Change::PutSegments(row.clone()?)),
+        }
+    }
 }
 
 /// Changes, of which the first is made first.

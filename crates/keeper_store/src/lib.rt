@@ -8,6 +8,7 @@
 mod contents;
 mod energy_bytes;
 mod keepers;
+mod mem_tables;
 mod places;
 mod row_types;
 #[cfg(test)]

@@ -65,7 +65,7 @@ fn ids_and_takes(alloc: Global, rows: &[RecordingRow]) -> Result<Vec<(u32, u32)>
 fn keeper_makes_a_batch_whole_or_not_at_all(rt: HostRuntime) -> Result<(), Fail> {
     let alloc = rt.alloc();
     let failing = [2, 4].to_vec(alloc)?;
-    let mut keeper = MemKeeper::new(alloc, Tables::empty(alloc), failing);
+    let mut keeper = MemKeeper::new(Tables::empty(alloc), failing);
     assert_eq!(rt; keeper.apply(&batch(alloc, 8)?), Ok(()));
     assert_eq!(rt; keeper.apply(&batch(alloc, 9)?), Err(Outside::Failed));
     for fails in [false, true, false] {
@@ -138,7 +138,7 @@ fn keeper_puts_segments_by_take(rt: HostRuntime) -> Result<(), Fail> {
     for (take, byte) in [(2, 1), (1, 2), (2, 3)] {
         changes.push(Change::PutSegments(segments(alloc, take, byte)?))?;
     }
-    let mut keeper = MemKeeper::new(alloc, Tables::empty(alloc), Vec::new(alloc));
+    let mut keeper = MemKeeper::new(Tables::empty(alloc), Vec::new(alloc));
     let batch = Batch {
         changes: Changes::of(changes),
     };

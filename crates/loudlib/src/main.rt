@@ -32,7 +32,7 @@ fn run_words(rt: &HostRuntime, alloc: Global) -> Result<u8, Memory> {
     let words = words(rt, alloc)?;
     let mut source = streams::standard_input(rt);
     let mut sink = streams::standard_output(rt);
-    let mut keeper = MemKeeper::new(alloc, Tables::empty(alloc), Vec::new(alloc));
+    let mut keeper = MemKeeper::new(Tables::empty(alloc), Vec::new(alloc));
     let mut vault = MemVault::new(alloc, Vec::new(alloc));
     let mut door = MemDoor::new(alloc, Vec::new(alloc), Vec::new(alloc))?;
     Ok(run(

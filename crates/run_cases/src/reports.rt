@@ -1,9 +1,9 @@
 //! What a run leaves, as text.
 
 use crate::runs::Outcome;
-use anyhow::Result;
+use anyhow::{Result, bail};
 use keeper_store::{RecordingRow, SegmentRow, Tables};
-use lib_base::Bytes;
+use lib_base::{Bytes, Memory};
 use md5::{Digest, Md5};
 use std::alloc::Global;
 use std::collections::BTreeMap;
@@ -17,7 +17,10 @@ pub fn report(alloc: Global, name: &str, outcome: &Outcome) -> Result<String> {
     let status = outcome.status;
     let mut text = format!(in alloc; "case {name}\nstatus {status}\n")?;
     add_output(&mut text, outcome.sink.written())?;
-    add_tables(&mut text, outcome.keeper.tables())?;
+    match outcome.keeper.tables() {
+        Ok(tables) => add_tables(&mut text, &tables)?,
+        Err(Memory) => bail!("want of memory"),
+    }
     add_keys(&mut text, outcome.vault.blobs())?;
     writeln!(text)?;
     Ok(text)

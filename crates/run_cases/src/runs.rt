@@ -41,7 +41,7 @@ pub fn run_case(alloc: Global, case: Case) -> Result<Outcome> {
         inner: MemSink::new(alloc, sink),
         most: room,
     };
-    let mut keeper = MemKeeper::new(alloc, tables, keeper);
+    let mut keeper = MemKeeper::new(tables, keeper);
     let mut vault = MemVault::new(alloc, vault);
     let status = run_over(
         alloc,

@@ -1,18 +1,35 @@
-use Rattle.std.proofs.Common.{◌≡◌, ◌<◌, ◌+◌, drop, length, ap, ◌∙◌, arith, length-drop}
+use Rattle.std.proofs.Common.{◌≡◌, ◌+◌, [], ◌∷◌, length, ap, sym, ◌∙◌, arith}
+use Rattle.std.specs.Vec.Iter.{into_iter_items}
 use Rattle.keeper_store.specs.Changes.{changed_all}
-use Rattle.catalogue_core.specs.Kept.{kept_tables}
-use Rattle.catalogue_core.proofs.Changing.{changed_all-first}
+use Rattle.keeper_store.proofs.Changing.{none_left}
 use Rattle.catalogue_core.proofs.committing.make_changes.Goals as goal
 
-pub loop-library-preserved : goal.loop-library-preserved
-loop-library-preserved c =
-    let changes = c.loop-library.changes.items in
-    let some : 0 < length changes = grind arith in
-    let counted : length changes ≡ length c.remove.new.self.items + 1 =
-    rw c.remove.ensures.items (omega (arith, length-drop 1 changes)) in (
-      c.make_change.ensures.room (length c.remove.new.self.items) (rw counted at c.loop-library.invariant.0),
-      ap (λ rest. changed_all rest (kept_tables c.make_change.new.library)) c.remove.ensures.items
-          ∙ ap (changed_all (drop 1 changes)) c.make_change.ensures.made
-          ∙ changed_all-first changes c.remove.result (kept_tables c.loop-library.library) some c.remove.ensures.value
-          ∙ c.loop-library.invariant.1,
-    )
+pub make_change-requires : goal.make_change-requires
+make_change-requires c =
+    let at = c.loop-change in
+    let steps : into_iter_items at.change-iterator ≡ c.in-Some.change ∷ into_iter_items c.next.new.self = c.in-Some.ensures.steps.0 in
+    let more = ap length steps in
+    record {
+      recordings = omega (arith, at.invariant.room.recordings, more);
+      segments = omega (arith, at.invariant.room.segments, more);
+    }
+
+pub loop-change-preserved : goal.loop-change-preserved
+loop-change-preserved c =
+    let at = c.loop-change in
+    let rest = into_iter_items c.next.new.self in
+    let steps : into_iter_items at.change-iterator ≡ c.in-Some.change ∷ rest = c.in-Some.ensures.steps.0 in
+    let more : length (into_iter_items at.change-iterator) ≡ length rest + 1 = omega (arith, ap length steps) in
+    let gone = c.in-Some.ensures.steps.1 in
+    record {
+      counted = omega (arith, at.invariant.counted, gone, more);
+      room = c.make_change.ensures.room (length rest) (rw more at at.invariant.room);
+      leads = ap (changed_all rest) c.make_change.ensures.made ∙ rw steps at at.invariant.leads;
+    }
+
+pub returns : goal.returns
+returns c =
+    let at = c.loop-change in
+    let none = c.in-None.ensures.steps in
+    let empty : into_iter_items at.change-iterator ≡ [] = none_left _ (sym at.invariant.counted ∙ none.0) in
+    rw empty at at.invariant.leads

@@ -1,6 +1,0 @@
-use Rattle.std.proofs.Common.{◌≡◌}
-use Rattle.catalogue_core.specs.Kept.{kept_tables}
-use Rattle.catalogue_core.proofs.tests.longer_waves_are_measured_whole.Given as goal
-
-abbrev pub invariant-loop-file : goal.invariant-loop-file
-invariant-loop-file g l = l.keeper.tables ≡ kept_tables l.library

@@ -1,0 +1,109 @@
+//! Tables in memory, which are changed in place.
+ghost use Rattle.std.specs.Prelude.{◌≡◌, ◌+◌, ℕ, IfOk, OnOk, length};
+ghost use Rattle.keeper_store.specs.Changes.{changed, changed_all};
+ghost use Rattle.keeper_store.specs.Keepers.{MakesChanges};
+ghost use Rattle.keeper_store.specs.Memory.{held_tables, HasRoom};
+
+use crate::places::put_row;
+use crate::{AlbumRow, Batch, Change, RecordingRow, ReplyRow, Rows, SegmentRow, Tables};
+use lib_base::Memory;
+
+/// Tables in memory, of which those that changes put rows into can be given room beforehand.
+#[derive(Debug, Drop)]
+pub(crate) struct MemTables {
+    next_album: u32,
+    next_recording: u32,
+    next_take: u32,
+    albums: Rows<AlbumRow>,
+    recordings: Vec<RecordingRow>,
+    segments: Vec<SegmentRow>,
+    replies: Rows<ReplyRow>,
+}
+
+impl MemTables {
+    /// These tables, with no memory taken.
+    pub(crate) fn of(tables: Tables) -> MemTables
+        ensures { held_tables result ≡ tables }
+    {
+        MemTables {
+            next_album: tables.next_album,
+            next_recording: tables.next_recording,
+            next_take: tables.next_take,
+            albums: tables.albums,
+            recordings: tables.recordings.into_vec(),
+            segments: tables.segments.into_vec(),
+            replies: tables.replies,
+        }
+    }
+
+    /// A copy of the tables.
+    pub(crate) fn copy(&self) -> Result<Tables, Memory>
+        ensures { IfOk result (λ tables. tables ≡ held_tables self.now) }
+    {
+        let albums = self.albums.clone()?;
+        let recordings = self.recordings.clone()?;
+        let segments = self.segments.clone()?;
+        let replies = self.replies.clone()?;
+        Ok(Tables {
+            next_album: self.next_album,
+            next_recording: self.next_recording,
+            next_take: self.next_take,
+            albums,
+            recordings: Rows::of(recordings),
+            segments: Rows::of(segments),
+            replies,
+        })
+    }
+
+    /// Makes all the changes of the batch, or none. All the memory is taken first: a copy of the
+    /// batch, and room for a row more for each change.
+    pub(crate) fn make(&mut self, batch: &Batch) -> Result<(), Memory>
+        ensures { MakesChanges batch.now.changes result (held_tables self.old) (held_tables self.new) }
+    {
+        let changes = batch.changes.clone()?.into_vec();
+        self.reserve(changes.len())?;
+        self.make_all(changes);
+        Ok(())
+    }
+
+    /// Makes room for so many rows more.
+    fn reserve(&mut self, more: usize) -> Result<(), Memory>
+        ensures kept { held_tables self.new ≡ held_tables self.old }
+        ensures room { OnOk result (HasRoom self.new more) }
+    {
+        self.recordings.reserve(more)?;
+        self.segments.reserve(more)?;
+        Ok(())
+    }
+
+    /// Makes changes in the room that there is.
+    fn make_all(&mut self, changes: Vec<Change>)
+        requires { HasRoom self.old (length changes.items) }
+        ensures { held_tables self.new ≡ changed_all changes.items (held_tables self.old) }
+    {
+        for change in changes {
+            self.make_one(change);
+        }
+    }
+
+    /// Makes one change in the room that there is.
+    fn make_one(&mut self, change: Change)
+        requires { HasRoom self.old 1 }
+        ensures made { held_tables self.new ≡ changed change (held_tables self.old) }
+        ensures room { (more : ℕ) → HasRoom self.old (more + 1) → HasRoom self.new more }
+    {
+        match change {
+            Change::Counters {
+                next_album,
+                next_recording,
+                next_take,
+            } => {
+                self.next_album = next_album;
+                self.next_recording = next_recording;
+                self.next_take = next_take;
+            }
+            Change::PutRecording(row) => put_row(&mut self.recordings, row),
+            Change::PutSegments(row) => put_row(&mut self.segments, row),
+        }
+    }
+}
