@@ -8,6 +8,8 @@ pub mod Rows
 pub mod Samples
 pub mod Spellings
 pub mod Waves
+pub mod BitsLemmas
+pub mod FieldsLemmas
 mod WorkedBits
 mod WorkedFields
 mod WorkedFrames
