@@ -6,5 +6,6 @@ pub mod Samples
 pub mod Spellings
 pub mod Waves
 pub mod BitsLemmas
+pub mod CrcLemmas
 pub mod FieldsLemmas
 mod WorkedBits
