@@ -1,11 +1,14 @@
+pub mod BitsLemmas
+pub mod CrcLemmas
+pub mod FieldsLemmas
 pub mod Interleaving
 pub mod Makes
+pub mod Pairings
+pub mod Predictions
 pub mod Readings
 pub mod Rows
 pub mod Samples
 pub mod Spellings
 pub mod Waves
-pub mod BitsLemmas
-pub mod CrcLemmas
-pub mod FieldsLemmas
 mod WorkedBits
+pub mod WorkedPredictions

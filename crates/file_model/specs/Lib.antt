@@ -5,7 +5,9 @@ pub mod Crc
 pub mod Fields
 pub mod Format
 pub mod Outcomes
+pub mod Pairs
 pub mod Pcm
+pub mod Predict
 pub mod Reading
 pub mod Rules
 pub mod Samples

@@ -6,5 +6,7 @@
 #![tactic(auto)]
 
 mod bits;
+mod pairs;
 
 pub use bits::BitFault;
+pub use pairs::Stereo;
