@@ -1,6 +1,6 @@
 #!/bin/bash
-# Times the proved meters beside plain C of the same definitions (gcc -O2) on the same samples, compares
-# their checksums, and prints the median of the ratios of their processor times.
+# Times the proved meters, and what decodes FLAC, beside plain C of the same definitions (gcc -O2) on the
+# same samples, compares their checksums, and prints the median of the ratios of their processor times.
 #
 # usage: bench/run.sh [RUNS]
 # It is run by hand on a machine that does nothing else; it tests nothing.
@@ -11,10 +11,13 @@ work=$(mktemp -d)
 trap 'rm -rf "$work"' EXIT
 
 (cd crates/bench_meters && rt run -- filter 1 >"$work/log" 2>&1) || { cat "$work/log"; exit 1; }
-proved=crates/bench_meters/out/bench_meters
+(cd crates/bench_flac && rt run -- fixed 1 >"$work/log" 2>&1) || { cat "$work/log"; exit 1; }
+meters=crates/bench_meters/out/bench_meters
+flac=crates/bench_flac/out/bench_flac
 gcc -O2 -DFAST -o "$work/filter_fast" bench/filter.c
 gcc -O2 -o "$work/filter_plain" bench/filter.c
 gcc -O2 -o "$work/peak" bench/peak.c
+gcc -O2 -o "$work/predict" bench/predict.c
 
 # seconds of processor time, and what the program printed in the file `sum`
 timed() {
@@ -22,27 +25,31 @@ timed() {
     { time "$@" >"$work/sum"; } 2>&1
 }
 
-# meter, rounds, C program, what that is
+# proved program, what it does, rounds, values in a round, C program, what that is
 compare() {
-    local meter=$1 rounds=$2 plain=$3 name=$4 run ours theirs sum
+    local proved=$1 kind=$2 rounds=$3 round=$4 plain=$5 name=$6 run ours theirs sum
     : >"$work/ratios"
     for ((run = 0; run < runs; run++)); do
-        ours=$(timed "$proved" "$meter" "$rounds")
+        ours=$(timed "$proved" "$kind" "$rounds")
         sum=$(cat "$work/sum")
-        theirs=$(timed "$plain" "$meter" "$rounds")
+        theirs=$(timed "$plain" "$kind" "$rounds")
         if [ "$sum" != "$(cat "$work/sum")" ]; then
-            echo "$meter: the checksums differ" >&2
+            echo "$kind: the checksums differ" >&2
             exit 1
         fi
-        awk -v ours="$ours" -v theirs="$theirs" -v samples=$((rounds * 48000)) \
+        awk -v ours="$ours" -v theirs="$theirs" -v samples=$((rounds * round)) \
             'BEGIN { printf "%.3f %.1f %.1f\n", ours / theirs, ours / samples * 1e9, theirs / samples * 1e9 }' >>"$work/ratios"
     done
-    sort -n "$work/ratios" | awk -v name="$meter beside $name" '
+    sort -n "$work/ratios" | awk -v name="$kind beside $name" '
         { ratio[NR] = $1; ours[NR] = $2; theirs[NR] = $3 }
         END { m = int((NR + 1) / 2); print name ": " ratio[m] " times its time (" ours[m] " and " theirs[m] " ns a sample, from " ratio[1] " to " ratio[NR] " in " NR " runs)" }'
 }
 
-compare filter 1000 "$work/filter_fast" "C with the same floor division"
-compare filter 200 "$work/filter_plain" "C with the division of 128 bits"
-compare peak 200 "$work/peak" "C"
-compare fading 200 "$work/peak" "C (the peak of noise that fades four times a second)"
+compare "$meters" filter 1000 48000 "$work/filter_fast" "C with the same floor division"
+compare "$meters" filter 200 48000 "$work/filter_plain" "C with the division of 128 bits"
+compare "$meters" peak 200 48000 "$work/peak" "C"
+compare "$meters" fading 200 48000 "$work/peak" "C (the peak of noise that fades four times a second)"
+compare "$flac" fixed 40000 4096 "$work/predict" "C"
+compare "$flac" linear8 20000 4096 "$work/predict" "C"
+compare "$flac" linear12 20000 4096 "$work/predict" "C"
+compare "$flac" linear32 10000 4096 "$work/predict" "C"

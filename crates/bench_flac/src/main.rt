@@ -1,7 +1,7 @@
 //! Decodes a block of generated FLAC data over and over, for `bench/run_flac.sh` to time.
 //!
-//! The words are what to decode and how many rounds to make. It prints a checksum of the last round,
-//! which a plain C program of the same definition prints too.
+//! The words are what to decode and how many rounds to make. It prints a checksum of the last
+//! round, which a plain C program of the same definition prints too.
 #![tactic(auto)]
 
 mod noise;

@@ -11,7 +11,7 @@ pub fn noise(alloc: Global, count: usize) -> Result<Vec<i32>, AllocError>
 {
     let mut samples = Vec::new(alloc);
     let mut state = 1u32;
-    'samples: for _ in 0..count {
+    for _place in 0..count {
         state = state.wrapping_mul(1_664_525).wrapping_add(1_013_904_223);
         samples.push(upper_half(state))?;
     }

@@ -43,7 +43,8 @@ sample_at weights samples coded shift depth place spells behind inside =
     raised (at coded place) (at samples place) (predicted weights shift samples place) (spells.residual place behind inside)
 
 -- where two lists are spelled by one and are the same before a place, they are so at it
-same_here : (weights xs ys coded : List ℤ) (shift depth place : ℕ) → Spells weights shift depth xs coded → Spells weights shift depth ys coded
+same_here : (weights xs ys coded : List ℤ) (shift depth place : ℕ) → Spells weights shift depth xs coded
+    → Spells weights shift depth ys coded
     → place < length coded → SameBefore xs ys place → at xs place ≡ at ys place
 same_here weights xs ys coded shift depth place one other inside same =
     elim (cases_lt place (length weights)) [
@@ -54,7 +55,8 @@ same_here weights xs ys coded shift depth place one other inside same =
           ∙ sym (sample_at weights ys coded shift depth place other behind inside)
     ]
 
-same_before : (weights xs ys coded : List ℤ) (shift depth place : ℕ) → Spells weights shift depth xs coded → Spells weights shift depth ys coded
+same_before : (weights xs ys coded : List ℤ) (shift depth place : ℕ) → Spells weights shift depth xs coded
+    → Spells weights shift depth ys coded
     → place ≤ length coded → SameBefore xs ys place
 same_before weights xs ys coded shift depth zero one other inside = λ before less. absurd (omega (arith, less))
 same_before weights xs ys coded shift depth (suc place) one other inside =
@@ -64,7 +66,8 @@ same_before weights xs ys coded shift depth (suc place) one other inside =
     before (omega (arith, less))
 
 -- a coded list spells at most one list of samples
-pub Spells_unique : (weights xs ys coded : List ℤ) (shift depth : ℕ) → Spells weights shift depth xs coded → Spells weights shift depth ys coded → xs ≡ ys
+pub Spells_unique : (weights xs ys coded : List ℤ) (shift depth : ℕ) → Spells weights shift depth xs coded
+    → Spells weights shift depth ys coded → xs ≡ ys
 Spells_unique weights xs ys coded shift depth one other =
     let same : SameBefore xs ys (length coded) = same_before weights xs ys coded shift depth (length coded) one other (omega arith) in
     same_lists xs ys (one.as_many ∙ sym other.as_many)
@@ -92,15 +95,18 @@ Spells-take weights samples coded shift depth place behind spells = record {
       let less : t < place = omega (arith, inside, cut) in
       get_or-take place coded t (pos 0) less ∙ spells.residual t from (omega (arith, inside, cut))
       ∙ sym (ap (λ (z : ℤ). z -ℤ predicted weights shift (take place samples) t) (get_or-take place samples t (pos 0) less)
-      ∙ ap (λ (z : ℤ). at samples t -ℤ z) (predicted-same weights (take place samples) samples shift t from (same_taken samples t place (omega (arith, less)))));
+      ∙ ap (λ (z : ℤ). at samples t -ℤ z)
+      (predicted-same weights (take place samples) samples shift t from (same_taken samples t place (omega (arith, less)))));
   within = All-take (IsSample depth) place samples spells.within;
 }
 
 -- where a place leaves the depth, no samples within it are spelled
-pub Leaves_none : (weights samples coded : List ℤ) (shift depth place : ℕ) → Leaves weights shift depth coded place → ¬ Spells weights shift depth samples coded
+pub Leaves_none : (weights samples coded : List ℤ) (shift depth place : ℕ) → Leaves weights shift depth coded place
+    → ¬ Spells weights shift depth samples coded
 Leaves_none weights samples coded shift depth place leaves spells =
     let whole = Spells-take weights samples coded shift depth place leaves.behind spells in
-    let same : take place samples ≡ leaves.before = Spells_unique weights (take place samples) leaves.before (take place coded) shift depth whole leaves.spelled in
+    let same : take place samples ≡ leaves.before =
+    Spells_unique weights (take place samples) leaves.before (take place coded) shift depth whole leaves.spelled in
     let before : SameBefore samples leaves.before place =
     λ t less. sym (get_or-take place samples t (pos 0) less) ∙ ap (λ (xs : List ℤ). at xs t) same in
     let here : at samples place ≡ at coded place +ℤ predicted weights shift leaves.before place =
@@ -128,7 +134,8 @@ Spells-push weights samples coded shift depth x c behind spells is_x within = re
       elim (cases_lt t (length coded)) [
         | inl old ↦
             get_or_append_left coded (c ∷ []) (pos 0) t old ∙ spells.residual t from old
-            ∙ sym (ap (λ (z : ℤ). z -ℤ predicted weights shift (samples ++ x ∷ []) t) (get_or_append_left samples (x ∷ []) (pos 0) t (omega (arith, old, spells.as_many)))
+            ∙ sym (ap (λ (z : ℤ). z -ℤ predicted weights shift (samples ++ x ∷ []) t)
+            (get_or_append_left samples (x ∷ []) (pos 0) t (omega (arith, old, spells.as_many)))
             ∙ ap (λ (z : ℤ). at samples t -ℤ z) prediction)
         | inr new ↦
             let last : length samples ≡ t = omega (arith, new, inside, longer, spells.as_many) in

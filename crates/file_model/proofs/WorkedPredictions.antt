@@ -1,5 +1,5 @@
 -- Worked predictions, spelled samples and pairs.
-use Rattle.std.proofs.Common.{◌≡◌, ◌≤◌, lit≤, ℕ, zero, suc, List, [], ◌∷◌, refl, lit<, below_more, arith}
+use Rattle.std.proofs.Common.{◌≡◌, ◌≤◌, ◌<◌, lit≤, ℕ, zero, suc, List, [], ◌∷◌, refl, lit<, below_more, arith}
 use Rattle.std.specs.Prelude.{ℤ, pos, negsuc, ◌-ℤ◌, All}
 use Rattle.std.proofs.lemmas.Int.{ints}
 use Rattle.std.proofs.lemmas.List.Elements.{All-from_recursion}
@@ -28,26 +28,39 @@ row_down : predicted (negsuc 0 ∷ []) 1 (pos 3 ∷ []) 1 ≡ negsuc 1
 unfolding weighted_before predicted
 row_down = refl
 
-four_rise : All (IsSample 16) (pos 0 ∷ pos 1 ∷ pos 2 ∷ pos 3 ∷ [])
-four_rise =
-    All-from_recursion (IsSample 16) (pos 0 ∷ pos 1 ∷ pos 2 ∷ pos 3 ∷ [])
-    ((omega (arith, ints), omega (arith, ints)), ((omega (arith, ints), omega (arith, ints)), ((omega (arith, ints), omega (arith, ints)), ((omega (arith, ints), omega (arith, ints)), tt))))
+-- 0 to 3, and their residuals of order 2 behind the warm-up
+abbrev rise : List ℤ
+rise = pos 0 ∷ pos 1 ∷ pos 2 ∷ pos 3 ∷ []
 
-abbrev ResidualIs : ℕ → Type 0
-ResidualIs t = at (pos 0 ∷ pos 1 ∷ pos 0 ∷ pos 0 ∷ []) t ≡ at (pos 0 ∷ pos 1 ∷ pos 2 ∷ pos 3 ∷ []) t -ℤ predicted (fixed_weights 2) 0 (pos 0 ∷ pos 1 ∷ pos 2 ∷ pos 3 ∷ []) t
+abbrev level : List ℤ
+level = pos 0 ∷ pos 1 ∷ pos 0 ∷ pos 0 ∷ []
+
+is_16 : (n : ℕ) → n ≤ 32767 → IsSample 16 (pos n)
+is_16 n small = (omega (arith, ints, small), omega (arith, ints, small))
+
+rise_fits : All (IsSample 16) rise
+rise_fits =
+    All-from_recursion (IsSample 16) rise
+    (is_16 0 (lit≤ tt), (is_16 1 (lit≤ tt), (is_16 2 (lit≤ tt), (is_16 3 (lit≤ tt), tt))))
+
+abbrev IsResidual : ℕ → Type 0
+IsResidual place = at level place ≡ at rise place -ℤ predicted (fixed_weights 2) 0 rise place
+
+no_place : (P : ℕ → Type 0) (place : ℕ) → 2 ≤ place → place < 2 → P place
+no_place P place behind before = absurd (omega (arith, behind, before))
 
 -- two samples, and residuals of 0, spell a straight line
-row_spelled : Spells (fixed_weights 2) 0 16 (pos 0 ∷ pos 1 ∷ pos 2 ∷ pos 3 ∷ []) (pos 0 ∷ pos 1 ∷ pos 0 ∷ pos 0 ∷ [])
+row_spelled : Spells (fixed_weights 2) 0 16 rise level
 unfolding weighted_before predicted
 row_spelled = record {
   as_many = refl;
   warm_up = below_more _ 1 (below_more _ 0 (λ k none. absurd (omega (arith, none))) refl) refl;
-  residual = λ place behind inside. below_more (λ t. 2 ≤ t → ResidualIs t) 3 (below_more _ 2 (λ k less behind. absurd (omega (arith, less, behind))) (λ behind. refl)) (λ behind. refl) place inside behind;
-  within = four_rise;
+  residual = λ place behind inside.
+      below_more (λ t. 2 ≤ t → IsResidual t) 3
+      (below_more (λ t. 2 ≤ t → IsResidual t) 2 (λ t before from. no_place IsResidual t from before) (λ from. refl))
+      (λ from. refl) place inside behind;
+  within = rise_fits;
 }
-
-is_16 : (n : ℕ) → n ≤ 32767 → IsSample 16 (pos n)
-is_16 n small = (omega (arith, ints, small), omega (arith, ints, small))
 
 -- one more than the greatest sample leaves the depth, at its place
 row_leaves : Leaves (fixed_weights 1) 0 16 (pos 32767 ∷ pos 1 ∷ []) 1

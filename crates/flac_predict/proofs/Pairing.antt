@@ -40,12 +40,16 @@ RestoredPairs-more kind depth place left right first second l r in_left in_right
     let B : ℤ → Type 0 = λ z. IsPair kind l r (at first place) z in
     let coded : IsPair kind l r (at first place) (at second place) =
     subst B (so_far.right_rest place (omega arith)) (subst A (so_far.left_rest place (omega arith)) pair) in
-    let pushed = SpellsPair-push kind (take place left) (take place right) (take place first) (take place second) depth l r (at first place) (at second place)
-    so_far.spelled coded l_within r_within in
-    let P : List ℤ → Type 0 = λ xs. SpellsPair kind depth xs (take (place + 1) (set right place r)) (take (place + 1) first) (take (place + 1) second) in
-    let Q : List ℤ → Type 0 = λ xs. SpellsPair kind depth (take place left ++ l ∷ []) xs (take (place + 1) first) (take (place + 1) second) in
-    let R : List ℤ → Type 0 = λ xs. SpellsPair kind depth (take place left ++ l ∷ []) (take place right ++ r ∷ []) xs (take (place + 1) second) in
-    let S : List ℤ → Type 0 = λ xs. SpellsPair kind depth (take place left ++ l ∷ []) (take place right ++ r ∷ []) (take place first ++ at first place ∷ []) xs in
+    let lefts = take place left ++ l ∷ [] in
+    let rights = take place right ++ r ∷ [] in
+    let firsts = take (place + 1) first in
+    let seconds = take (place + 1) second in
+    let pushed = SpellsPair-push kind (take place left) (take place right) (take place first) (take place second) depth l r
+    (at first place) (at second place) so_far.spelled coded l_within r_within in
+    let P : List ℤ → Type 0 = λ xs. SpellsPair kind depth xs (take (place + 1) (set right place r)) firsts seconds in
+    let Q : List ℤ → Type 0 = λ xs. SpellsPair kind depth lefts xs firsts seconds in
+    let R : List ℤ → Type 0 = λ xs. SpellsPair kind depth lefts rights xs seconds in
+    let S : List ℤ → Type 0 = λ xs. SpellsPair kind depth lefts rights (take place first ++ at first place ∷ []) xs in
     record {
       spelled =
           subst P (sym (take_more_set left place l in_left))

@@ -1,6 +1,5 @@
 -- One more sample restored.
 use Rattle.std.proofs.Common.{◌≡◌, ◌≢◌, ◌≤◌, ◌<◌, ◌+◌, ◌-◌, ◌^◌, ℕ, ℤ, pos, ◌+ℤ◌, List, [], ◌∷◌, ◌++◌, length, length-take, take, set, get_or, ap, sym, ◌∙◌, subst, arith}
-use Rattle.std.specs.Prelude.{Result, Ok, Err, OnOk, IfErr, OnErr}
 use Rattle.std.specs.List.{All}
 use Rattle.std.proofs.lemmas.Int.{ints}
 use Rattle.std.proofs.lemmas.List.{take_all, take_more, take_more_set, get_or-set_other}
@@ -8,8 +7,7 @@ use Rattle.std.proofs.lemmas.List.Elements.{All-get_or, All-from_get_or}
 use Rattle.std.proofs.Math.Pow.{pow_mono}
 use Rattle.lib_base.specs.Sounds.{IsSample}
 use Rattle.file_model.specs.Predict.{at, predicted, Spells, Leaves}
-use Rattle.file_model.proofs.Predictions.{SameBefore, same_taken, predicted-same, Spells-push, Spells_unique, Leaves_none}
-use Rattle.flac_predict.specs.declared.places.OutOfDepth.{OutOfDepth}
+use Rattle.file_model.proofs.Predictions.{SameBefore, same_taken, predicted-same, Spells-push}
 
 -- two lists have the same numbers from a place on
 abbrev pub SameFrom : List ℤ → List ℤ → ℕ → Type 0
@@ -56,7 +54,8 @@ Restored-more weights samples coded shift depth place value behind inside same i
     let x_is : value ≡ at coded place +ℤ predicted weights shift (take place samples) (length (take place samples)) =
     value_is weights samples coded shift place value behind so_far.rest is
     ∙ ap (λ (n : ℕ). at coded place +ℤ predicted weights shift (take place samples) n) (sym taken) in
-    let pushed = Spells-push weights (take place samples) (take place coded) shift depth value (at coded place) (omega (arith, taken, behind)) so_far.spelled x_is within in
+    let pushed = Spells-push weights (take place samples) (take place coded) shift depth value (at coded place)
+    (omega (arith, taken, behind)) so_far.spelled x_is within in
     let P : List ℤ → Type 0 = λ xs. Spells weights shift depth xs (take (place + 1) coded) in
     let Q : List ℤ → Type 0 = λ xs. Spells weights shift depth (take place samples ++ value ∷ []) xs in
     record {
@@ -74,7 +73,8 @@ Leaves-here weights samples coded shift depth place value behind inside same is 
   behind = behind;
   inside = omega (arith, inside, same);
   spelled = so_far.spelled;
-  outside = λ within. outside (subst (IsSample depth) (sym (value_is weights samples coded shift place value behind so_far.rest is)) within);
+  outside = λ within.
+      outside (subst (IsSample depth) (sym (value_is weights samples coded shift place value behind so_far.rest is)) within);
 }
 
 pub Restored-whole : (weights samples coded : List ℤ) (shift depth place : ℕ) → length samples ≤ place → length samples ≡ length coded
@@ -83,15 +83,3 @@ Restored-whole weights samples coded shift depth place past same so_far =
     let P : List ℤ → Type 0 = λ xs. Spells weights shift depth xs coded in
     let Q : List ℤ → Type 0 = λ xs. Spells weights shift depth (take place samples) xs in
     subst P (take_all place samples past) (subst Q (take_all place coded (omega (arith, past, same))) so_far.spelled)
-
--- ---- what a call's answer means
-
-pub only_spelled : {T : Type 0} (weights new old : List ℤ) (shift depth : ℕ) (r : Result T OutOfDepth) → OnOk r (Spells weights shift depth new old)
-    → OnOk r ((spelled : List ℤ) → Spells weights shift depth spelled old → spelled ≡ new)
-only_spelled weights new old shift depth (Ok x) spells = λ spelled other. Spells_unique weights spelled new old shift depth other spells
-only_spelled weights new old shift depth (Err e) spells = tt
-
-pub none_spelled : {T : Type 0} (weights old : List ℤ) (shift depth : ℕ) (r : Result T OutOfDepth) → IfErr r (λ e. Leaves weights shift depth old e.place)
-    → OnErr r ((spelled : List ℤ) → ¬ Spells weights shift depth spelled old)
-none_spelled weights old shift depth (Ok x) leaves = tt
-none_spelled weights old shift depth (Err e) leaves = λ spelled. Leaves_none weights spelled old shift depth e.place leaves

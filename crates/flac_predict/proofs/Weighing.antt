@@ -14,7 +14,8 @@ next_product p s q = omega (arith, ints)
 
 -- one more weight adds its product
 pub weighted_before-more : (weights samples : List ℤ) (k place back : ℕ) → k < length weights → back ≡ place - 1 - k
-    → weighted_before (take (k + 1) weights) samples place ≡ weighted_before (take k weights) samples place +ℤ (at weights k *ℤ at samples back)
+    → weighted_before (take (k + 1) weights) samples place
+    ≡ weighted_before (take k weights) samples place +ℤ (at weights k *ℤ at samples back)
 unfolding weighted_before
 weighted_before-more [] samples k place back inside is = absurd (omega (arith, inside))
 weighted_before-more (weight ∷ weights) samples zero place back inside is =
@@ -23,8 +24,10 @@ weighted_before-more (weight ∷ weights) samples zero place back inside is =
 weighted_before-more (weight ∷ weights) samples (suc k) place back inside is =
     ap (λ (n : ℕ). weighted_before (take n (weight ∷ weights)) samples place) (add-one (suc k))
     ∙ ap (λ (n : ℕ). (weight *ℤ at samples (place - 1)) +ℤ weighted_before (take n weights) samples (place - 1)) (sym (add-one k))
-    ∙ ap (λ (z : ℤ). (weight *ℤ at samples (place - 1)) +ℤ z) (weighted_before-more weights samples k (place - 1) back (omega (arith, inside)) (omega (arith, is)))
-    ∙ next_product (weight *ℤ at samples (place - 1)) (weighted_before (take k weights) samples (place - 1)) (at weights k *ℤ at samples back)
+    ∙ ap (λ (z : ℤ). (weight *ℤ at samples (place - 1)) +ℤ z)
+    (weighted_before-more weights samples k (place - 1) back (omega (arith, inside)) (omega (arith, is)))
+    ∙ next_product (weight *ℤ at samples (place - 1)) (weighted_before (take k weights) samples (place - 1))
+    (at weights k *ℤ at samples back)
 
 pub weighted_before-none : (weights samples : List ℤ) (place : ℕ) → weighted_before (take 0 weights) samples place ≡ pos 0
 unfolding weighted_before

@@ -7,10 +7,11 @@ ghost use Rattle.file_model.specs.Pairs.{first_depth, second_depth, IsPair, Spel
 use crate::places::{OutOfDepth, sample_of};
 use file_model::Stereo;
 
-/// Restores the left channel in the first slice and the right one in the second (RFC 9639 section 4.2).
+/// Restores the left channel in the first slice, and the right one in the second (RFC 9639 section
+/// 4.2).
 ///
-/// The slices hold two channels that are coded as `kind` says: the side channel's samples have a bit
-/// more than `depth`. After a refusal they hold anything.
+/// The slices hold two channels that are coded as `kind` says: the samples of the side channel have
+/// a bit more than `depth`. After a refusal they hold anything.
 pub fn undo_stereo(
     kind: Stereo,
     first: &mut [i32],
@@ -22,7 +23,8 @@ pub fn undo_stereo(
     requires equal { length second.old ≡ length first.old }
     requires first_within { All (IsSample (first_depth kind depth)) first.old }
     requires second_within { All (IsSample (second_depth kind depth)) second.old }
-    ensures restored { OnOk result (SpellsPair kind depth first.new second.new first.old second.old) }
+    ensures restored { OnOk result
+        (SpellsPair kind depth first.new second.new first.old second.old) }
     ensures only { OnOk result ((left right : List ℤ)
         → SpellsPair kind depth left right first.old second.old
         → (left ≡ first.new) × (right ≡ second.new)) }

@@ -5,10 +5,10 @@ ghost use Rattle.file_model.specs.Predict.{fixed_weights, predicted, weighted_be
 
 use crate::places::{OutOfDepth, sample_of};
 
-/// Restores the samples of a fixed predictor of an order from 0 to 4, which is the number of warm-up samples (RFC 9639 section 9.2.5).
+/// Restores the samples of the fixed predictor of an order from 0 to 4 (RFC 9639 section 9.2.5).
 ///
-/// The slice holds warm-up samples of `depth` bits and residuals behind them, which become samples.
-/// After a refusal it holds anything.
+/// The slice holds as many warm-up samples of `depth` bits as the order says, and residuals behind
+/// them, which become samples. After a refusal it holds anything.
 pub fn restore_fixed(order: usize, samples: &mut [i32], depth: u32) -> Result<(), OutOfDepth>
     requires order { order ≤ 4 }
     requires room { order ≤ length samples.old }
@@ -31,8 +31,8 @@ pub fn restore_fixed(order: usize, samples: &mut [i32], depth: u32) -> Result<()
     }
 }
 
-/// Restores the samples of a linear predictor (RFC 9639 section 9.2.6). The first of its coefficients,
-/// of at most 15 bits, goes with the sample just before.
+/// Restores the samples of a linear predictor (RFC 9639 section 9.2.6). The first coefficient, of at
+/// most 15 bits like all of them, goes with the sample just before.
 ///
 /// The slice holds as many warm-up samples of `depth` bits as there are coefficients, and residuals
 /// behind them, which become samples. After a refusal it holds anything.
@@ -57,6 +57,8 @@ pub fn restore_linear(
     ensures none { OnErr result ((spelled : List ℤ)
         → ¬ Spells coefficients.now shift depth spelled samples.old) }
 {
+    // For the orders that encoders choose most the loop over the weights is unrolled in a body of its
+    // own, which takes about half the time.
     match coefficients.len() {
         8 => restore(coefficients, shift, samples, depth),
         12 => restore(coefficients, shift, samples, depth),

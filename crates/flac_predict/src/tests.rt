@@ -14,12 +14,18 @@ fn a_straight_line(rt: HostRuntime) {
 #[test]
 fn past_the_greatest_sample(rt: HostRuntime) {
     let mut samples = [32_767, 1];
-    assert_eq!(rt; restore_fixed(1, &mut samples, 16), Err(OutOfDepth { place: 1 }));
+    assert_eq!(rt;
+        restore_fixed(1, &mut samples, 16),
+        Err(OutOfDepth { place: 1 })
+    );
 }
 
 #[test]
 fn the_least_pair(rt: HostRuntime) {
     let (mut mid, mut side) = ([-32_768], [-1]);
-    assert_eq!(rt; undo_stereo(Stereo::MidSide, &mut mid, &mut side, 16), Ok(()));
+    assert_eq!(rt;
+        undo_stereo(Stereo::MidSide, &mut mid, &mut side, 16),
+        Ok(())
+    );
     assert_eq!(rt; (mid, side), ([-32_768], [-32_767]));
 }

@@ -22,7 +22,8 @@ loop-place-preserved c =
 spells : (c : goal.After-loop-place)
     → SpellsPair c.args.kind c.args.depth c.loop-place.first c.loop-place.second c.args.first.now c.args.second.now
 spells c =
-    RestoredPairs-whole c.args.kind c.args.depth c.loop-place.place c.loop-place.first c.loop-place.second c.args.first.now c.args.second.now
+    RestoredPairs-whole c.args.kind c.args.depth c.loop-place.place
+    c.loop-place.first c.loop-place.second c.args.first.now c.args.second.now
     (omega arith) (omega arith) (omega arith) (omega arith) c.loop-place.invariant
 
 pub returns-clause-restored : goal.returns-clause-restored
@@ -30,4 +31,5 @@ returns-clause-restored c = spells c
 
 pub returns-clause-only : goal.returns-clause-only
 returns-clause-only c = λ left right other.
-    SpellsPair_unique c.args.kind left right c.loop-place.first c.loop-place.second c.args.first.now c.args.second.now c.args.depth other (spells c)
+    SpellsPair_unique c.args.kind left right c.loop-place.first c.loop-place.second c.args.first.now c.args.second.now
+    c.args.depth other (spells c)

@@ -51,7 +51,8 @@ pub returns-in-None-clause-leaves : goal.returns-in-None-clause-leaves
 returns-in-None-clause-leaves c = leaves c
 
 pub returns-in-None-clause-none : goal.returns-in-None-clause-none
-returns-in-None-clause-none c = λ spelled. Leaves_none c.args.weights.now spelled c.args.samples.now c.args.shift c.args.depth c.loop-place.place (leaves c)
+returns-in-None-clause-none c = λ spelled.
+    Leaves_none c.args.weights.now spelled c.args.samples.now c.args.shift c.args.depth c.loop-place.place (leaves c)
 
 spells : (c : goal.After-loop-place) → Spells c.args.weights.now c.args.shift c.args.depth c.loop-place.samples c.args.samples.now
 spells c =
