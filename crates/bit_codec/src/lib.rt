@@ -6,8 +6,11 @@
 //! polynomial. Nothing takes memory.
 #![tactic(auto)]
 
+mod checks;
 mod reader;
+mod tables;
 mod windows;
 
+pub use checks::{crc8, crc16};
 pub use file_model::BitFault;
 pub use reader::BitReader;

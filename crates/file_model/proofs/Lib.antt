@@ -1,3 +1,6 @@
+pub mod BitsLemmas
+pub mod CrcLemmas
+pub mod FieldsLemmas
 pub mod FrameLaws
 pub mod Interleaving
 pub mod Makes
@@ -8,8 +11,6 @@ pub mod Rows
 pub mod Samples
 pub mod Spellings
 pub mod Waves
-pub mod BitsLemmas
-pub mod FieldsLemmas
 mod WorkedBits
 mod WorkedFields
 mod WorkedFrames

@@ -2,7 +2,6 @@
 -- it, or the rule that is broken first, in the order of the bits.
 use Rattle.std.specs.Prelude.{◌+◌, ◌-◌, ◌*◌, ◌/◌, ◌^◌, ◌==◌, ℕ, Bool, not, nat_lt, nat_le, if◌then◌else◌, List, length, take, Option, None, Some, Result, Ok, Err}
 use Rattle.file_model.specs.declared.bits.BitFault.{BitFault}
-use Rattle.file_model.specs.declared.bits.BitFault.TheVariants.{Cut, BadNumber}
 use Rattle.file_model.specs.declared.flac_info.Info.{Info}
 use Rattle.file_model.specs.declared.flac_rules.FlacRule.{FlacRule}
 use Rattle.file_model.specs.declared.flac_rules.FlacRule.TheVariants.{LostSync, ReservedBlockSize, ForbiddenRate, ReservedChannels, ReservedDepth, ReservedBit, OtherCodedNumber, FrameRate, FrameChannels, FrameDepth, HeaderCheck, CutFrame}
@@ -11,14 +10,10 @@ use Rattle.file_model.specs.declared.pairs.Stereo.TheVariants.{LeftSide, SideRig
 use Rattle.file_model.specs.Bits.{bits}
 use Rattle.file_model.specs.Crc.{crc8}
 use Rattle.file_model.specs.Fields.{field, coded_at}
+use Rattle.file_model.specs.FlacRules.{rule_of_fault}
 use Rattle.file_model.specs.Outcomes.{◌>>=◌, holds}
 
--- the rule that a field breaks which is none
-abbrev pub rule_of_fault : BitFault → FlacRule
-rule_of_fault Cut = CutFrame
-rule_of_fault BadNumber = OtherCodedNumber
-
--- a field of a frame
+-- a field of a frame: where it is none, that breaks a rule
 abbrev pub of_frame : {A : Type 0} → Result A BitFault → Result A FlacRule
 of_frame (Ok value) = Ok value
 of_frame (Err fault) = Err (rule_of_fault fault)

@@ -2,6 +2,8 @@
 use Rattle.std.specs.Prelude.{ℕ}
 use Rattle.lib_base.specs.declared.outcomes.Rule.{Rule}
 use Rattle.lib_base.specs.declared.outcomes.Rule.TheVariants.{F}
+use Rattle.file_model.specs.declared.bits.BitFault.{BitFault}
+use Rattle.file_model.specs.declared.bits.BitFault.TheVariants.{Cut, BadNumber}
 use Rattle.file_model.specs.declared.flac_rules.FlacRule.{FlacRule}
 use Rattle.file_model.specs.declared.flac_rules.FlacRule.TheVariants.{NoFlac, CutBlock, InvalidBlock, NoStreaminfo, RepeatedBlock, OtherRate, OtherChannels, OtherDepth, LostSync, ReservedBlockSize, ForbiddenRate, ReservedChannels, ReservedDepth, ReservedBit, OtherCodedNumber, FrameRate, FrameChannels, FrameDepth, HeaderCheck, SubframeBit, ReservedSubframe, WastedBits, PredictorOrder, ForbiddenPrecision, NegativeShift, OtherPartitions, OutOfRange, FrameCheck, CutFrame, OtherTotal, OtherMd5, TooManySamples}
 
@@ -43,3 +45,8 @@ flac_number_of TooManySamples = 32
 -- the rule by family and number
 abbrev pub flac_rule_of : FlacRule → Rule
 flac_rule_of rule = F (flac_number_of rule)
+
+-- the rule that a field of a frame breaks where it is cut, or no coded number
+abbrev pub rule_of_fault : BitFault → FlacRule
+rule_of_fault Cut = CutFrame
+rule_of_fault BadNumber = OtherCodedNumber

@@ -1,7 +1,8 @@
 //! The rules of a FLAC file.
 ghost use Rattle.std.specs.Prelude.{◌≡◌};
-ghost use Rattle.file_model.specs.FlacRules.{flac_rule_of};
+ghost use Rattle.file_model.specs.FlacRules.{flac_rule_of, rule_of_fault};
 
+use crate::bits::BitFault;
 use lib_base::Rule;
 
 /// The rules that a FLAC file can break, in the order of their numbers, the first of which is 1
@@ -82,5 +83,17 @@ impl FlacRule {
         ensures { result ≡ flac_rule_of self }
     {
         Rule::F(self as u8)
+    }
+}
+
+/// Of a field that breaks no rule of its own, and is cut or no coded number.
+impl From<BitFault> for FlacRule {
+    ghost from_gives = { λ fault rule. rule ≡ rule_of_fault fault };
+
+    fn from(fault: BitFault) -> FlacRule {
+        match fault {
+            BitFault::Cut => FlacRule::CutFrame,
+            BitFault::BadNumber => FlacRule::OtherCodedNumber,
+        }
     }
 }
