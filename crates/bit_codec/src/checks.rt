@@ -11,7 +11,7 @@ use crate::windows::word;
 pub fn crc8(bytes: &[u8]) -> u8
     ensures { result ≡ crc8 bytes.now }
 {
-    let mut check = 0;
+    let mut check = 0u8;
     for byte in bytes {
         check = header_entry(check ^ *byte);
     }
@@ -35,7 +35,7 @@ pub fn crc16(bytes: &[u8]) -> u16
 fn over_words(bytes: &[u8]) -> u16
     ensures { result ≡ crc16 (take (8 * (length bytes.now / 8)) bytes.now) }
 {
-    let mut check = 0;
+    let mut check = 0u16;
     for place in 0..bytes.len() / 8 {
         let rest = bytes.split_at(8 * place).1;
         check = after_word(check, word(rest));
