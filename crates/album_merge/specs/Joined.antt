@@ -15,12 +15,14 @@ windows_in members = flat_map (λ (m : Member). m.tally.windows) members
 abbrev pub frames_in : List Member → ℕ
 frames_in members = sum_by (λ (m : Member). m.tally.summary.frames) members
 
--- the greatest of their blocks, of their windows, and of their peaks
+-- the greatest of their blocks
 abbrev pub greatest_block_in : List Member → ℕ
 greatest_block_in members = greatest (map (λ (m : Member). m.tally.greatest_block) members)
 
+-- the greatest of their windows
 abbrev pub greatest_window_in : List Member → ℕ
 greatest_window_in members = greatest (map (λ (m : Member). m.tally.greatest_window) members)
 
+-- the greatest of their peaks
 abbrev pub peak_in : List Member → ℕ
 peak_in members = greatest (map (λ (m : Member). m.tally.summary.peak) members)
