@@ -1,5 +1,5 @@
 -- Counts of numbers that pass a test, and the number at a place told by such counts alone.
-use Rattle.std.proofs.Common.{◌≡◌, ◌<◌, ◌≤◌, ◌+◌, ℕ, suc, Bool, true, false, not, List, [], ◌∷◌, length, nat_lt, nat_le, ◌==◌, refl, sym, ap, ◌∙◌, arith, cond, zero-add}
+use Rattle.std.proofs.Common.{◌≡◌, ◌<◌, ◌≤◌, ◌+◌, ℕ, suc, Bool, true, false, List, [], ◌∷◌, length, nat_lt, nat_le, refl, sym, ap, ◌∙◌, arith, cond, zero-add}
 use Rattle.std.specs.Prelude.{Contains, count_by, sum_by, filter, ◌&&◌}
 use Rattle.std.specs.List.Sorted.{IsPermutation}
 use Rattle.std.proofs.lemmas.Bool.Decides.{nat_tests}
