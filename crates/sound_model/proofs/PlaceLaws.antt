@@ -78,10 +78,6 @@ count_by-weaker p q (x ∷ xs) more =
     at false c first second rest = omega arith
     at true false first second rest = absurd (let passes = more x first in cc)
 
--- what is less than the next number is no greater than this one
-pub count_by-next : (e : ℕ) (xs : List ℕ) → count_by (λ (x : ℕ). nat_lt x (e + 1)) xs ≤ count_by (λ (x : ℕ). nat_le x e) xs
-count_by-next e xs = count_by-weaker (λ (x : ℕ). nat_lt x (e + 1)) (λ (x : ℕ). nat_le x e) xs (λ x less. grind (arith, nat_tests))
-
 -- no number passes a test that none does
 pub count_by-none : (p : ℕ → Bool) (xs : List ℕ) → ((x : ℕ) → p x ≡ false) → count_by p xs ≡ 0
 count_by-none p [] fails = refl
