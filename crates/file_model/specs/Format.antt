@@ -1,6 +1,6 @@
 -- The content of a `fmt ` chunk: PCM at 48,000 Hz, with 16 or 24 bits a sample and 1 to 6 channels.
 -- After the Multimedia Programming Interface and Data Specifications 1.0, EBU Tech 3285, and WAVEFORMATEXTENSIBLE of Microsoft.
-use Rattle.std.specs.Prelude.{◌≡◌, ◌≢◌, ◌⊎◌, ◌*◌, ◌/◌, ◌<◌, ◌≤◌, ℕ, List, [], ◌∷◌, length}
+use Rattle.std.specs.Prelude.{◌≡◌, ◌≢◌, ◌⊎◌, ◌*◌, ◌/◌, ◌<◌, ◌≤◌, ℕ, List, length}
 use Rattle.lib_base.specs.Sounds.{part}
 use Rattle.lib_base.specs.declared.limits.TheConstants.{SAMPLE_RATE, MOST_CHANNELS}
 use Rattle.file_model.specs.declared.wave_fields.TheConstants.{FORMAT_BYTES, EXTENSIBLE_BYTES, TAG_AT, CHANNELS_AT, RATE_AT, ALIGN_AT, DEPTH_AT, SUBFORMAT_AT, PCM_TAG, EXTENSIBLE_TAG, PCM_SUBFORMAT}
