@@ -1,8 +1,9 @@
 //! The header of a frame (RFC 9639 section 9.1).
 ghost use Rattle.std.specs.Prelude.{◌≡◌, ◌≤◌, ◌<◌, ◌+◌, ◌-◌, ◌%◌, ℕ, List, length, drop, take, IfOk, OnOk};
 ghost use Rattle.bit_codec.specs.Reader.{left, source, place};
+ghost use Rattle.file_model.specs.Bits.{bits};
 ghost use Rattle.file_model.specs.Crc.{crc8};
-ghost use Rattle.file_model.specs.FlacHeader.{codes_at, size_at, rate_at, named_rate, channels_of, stereo_of, depth_of, header_at};
+ghost use Rattle.file_model.specs.FlacHeader.{bytes_before, codes_at, size_at, rate_at, named_rate, channels_of, stereo_of, depth_of, header_at};
 ghost use Rattle.file_model.specs.Outcomes.{Gives, Is};
 ghost use Rattle.flac_frames.specs.Answers.{Answers};
 ghost use Rattle.flac_frames.specs.Headers.{codes_of, header_of, TakesBytes};
@@ -69,7 +70,7 @@ fn header_at(bytes: &[u8], at: usize, info: &Info) -> Result<Header, FlacRule>
     holds(rate == info.rate, FlacRule::FrameRate)?;
     holds(channels_of(codes.channels) == info.channels, FlacRule::FrameChannels)?;
     holds(depth_of(codes.depth, info.depth) == info.depth, FlacRule::FrameDepth)?;
-    let end = reader.byte();
+    let end = end_of(&reader, bytes, at);
     let check = reader.take(8)?;
     holds(check == check_over(bytes, at, end), FlacRule::HeaderCheck)?;
     Ok(Header {
@@ -77,6 +78,18 @@ fn header_at(bytes: &[u8], at: usize, info: &Info) -> Result<Header, FlacRule>
         block,
         stereo: stereo_of(codes.channels),
     })
+}
+
+/// Where a reader stands that took whole bytes from a place on.
+#[tactic(auto, using(crate::proofs::Places::stands_behind))]
+fn end_of(reader: &BitReader, bytes: &[u8], at: usize) -> usize
+    requires place { at ≤ length bytes.now }
+    requires of_bytes { source reader.now ≡ bytes.now }
+    requires whole { TakesBytes (bits (drop at bytes.now)) (left reader.now) }
+    ensures within { result ≤ length bytes.now }
+    ensures before { result ≡ at + bytes_before (drop at bytes.now) (left reader.now) }
+{
+    reader.byte()
 }
 
 /// The check over the bytes from one place up to another.
