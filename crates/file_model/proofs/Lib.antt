@@ -3,6 +3,7 @@ pub mod CrcLemmas
 pub mod FieldsLemmas
 pub mod Interleaving
 pub mod Makes
+pub mod OutcomesLemmas
 pub mod Pairings
 pub mod Predictions
 pub mod Readings
