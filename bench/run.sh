@@ -18,6 +18,7 @@ gcc -O2 -DFAST -o "$work/filter_fast" bench/filter.c
 gcc -O2 -o "$work/filter_plain" bench/filter.c
 gcc -O2 -o "$work/peak" bench/peak.c
 gcc -O2 -o "$work/predict" bench/predict.c
+gcc -O2 -o "$work/bits" bench/bits.c
 
 # seconds of processor time, and what the program printed in the file `sum`
 timed() {
@@ -53,3 +54,6 @@ compare "$flac" fixed 40000 4096 "$work/predict" "C"
 compare "$flac" linear8 20000 4096 "$work/predict" "C"
 compare "$flac" linear12 20000 4096 "$work/predict" "C"
 compare "$flac" linear32 10000 4096 "$work/predict" "C"
+compare "$flac" rice4 5000 80000 "$work/bits" "C"
+compare "$flac" rice10 10000 40000 "$work/bits" "C"
+compare "$flac" crc16 10000 65536 "$work/bits" "C"

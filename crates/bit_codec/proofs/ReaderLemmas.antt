@@ -140,6 +140,7 @@ rice_by_parts_is count bits = behind_quotient count (unary_at bits)
         → (read >>= λ low. Ok (min (min quotient (2 ^ 64 - 1) * 2 ^ count + low.0) (2 ^ 64 - 1), low.1)) ≡ held (read >>= λ low. Ok (quotient * 2 ^ count + low.0, low.1))
     behind_low count quotient (Ok (low, rest)) = ap (λ (n : ℕ). Ok (n, rest)) (held_product quotient (2 ^ count) low (pow_pos count))
     behind_low count quotient (Err fault) = refl
+
     behind_quotient : (count : ℕ) (read : Result (ℕ × List Bool) BitFault)
         → (held read >>= λ quotient. field count quotient.1 >>= λ low. Ok (min (quotient.0 * 2 ^ count + low.0) (2 ^ 64 - 1), low.1))
         ≡ held (read >>= λ quotient. field count quotient.1 >>= λ low. Ok (quotient.0 * 2 ^ count + low.0, low.1))

@@ -44,7 +44,7 @@ window_at bytes byte bit word within few is =
     record {
       few = few;
       whole = (let left = length-drop (8 * byte + bit) (bits bytes) in omega arith);
-      value = shifted word bit few ∙ ap (λ (n : ℕ). n * 2 ^ bit) (sym spelled)
+      value = shifted word bit few ∙ ap (λ (n : ℕ). n * 2 ^ bit) (sym spelled);
     }
 
 pub window_enough : (left : List Bool) (fewer window count : ℕ) → IsWindow left fewer window → count + fewer ≤ 64 → count ≤ length left
@@ -95,7 +95,7 @@ has_zeros window passed below is within =
     let above_twice : 2 ^ suc (63 - passed) ≤ 2 * window + 1 = (let P : ℕ → Type 0 = λ k. 2 ^ k ≤ 2 * window + 1 in subst P power above) in
     record {
       low = omega arith;
-      high = (let P : ℕ → Type 0 = λ k. window < 2 ^ k in subst P width found.2)
+      high = (let P : ℕ → Type 0 = λ k. window < 2 ^ k in subst P width found.2);
     }
 
 -- the unary count on top of a window
@@ -134,6 +134,7 @@ window_has left fewer window passed is some below count = cases (cases_lt (fewer
     product_above : (n k : ℕ) → 0 < n * k → k ≤ n * k
     product_above zero k some = absurd (omega arith)
     product_above (suc n) k some = omega arith
+
     cases : (fewer + passed < 64) ⊎ (64 ≤ fewer + passed) → suc passed + fewer ≤ 64
     cases (inl less) = omega arith
     cases (inr more) =

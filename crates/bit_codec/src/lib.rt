@@ -9,6 +9,8 @@
 mod checks;
 mod reader;
 mod tables;
+#[cfg(test)]
+mod tests;
 mod windows;
 
 pub use checks::{crc8, crc16};

@@ -176,7 +176,7 @@ unfolding bits number
 no_bits = refl
 
 -- eight bytes as one number
-eight : (a b c d e f g h : ℕ) → a < 256 → b < 256 → c < 256 → d < 256 → e < 256 → f < 256 → g < 256 → h < 256
+pub eight : (a b c d e f g h : ℕ) → a < 256 → b < 256 → c < 256 → d < 256 → e < 256 → f < 256 → g < 256 → h < 256
     → from_be_bytes w64 (a ∷ b ∷ c ∷ d ∷ e ∷ f ∷ g ∷ h ∷ []) ≡ number (bits (a ∷ b ∷ c ∷ d ∷ e ∷ f ∷ g ∷ h ∷ []))
 eight a b c d e f g h is_a is_b is_c is_d is_e is_f is_g is_h =
     let first = number-byte a (b ∷ c ∷ d ∷ e ∷ f ∷ g ∷ h ∷ []) is_a in
@@ -190,7 +190,7 @@ eight a b c d e f g h is_a is_b is_c is_d is_e is_f is_g is_h =
     let none : number (bits []) ≡ 0 = no_bits in
     omega arith
 
-first_eight : (xs : List ℕ) → 8 ≤ length xs
+pub first_eight : (xs : List ℕ) → 8 ≤ length xs
     → take 8 xs ≡ get_or xs 0 0 ∷ get_or xs 1 0 ∷ get_or xs 2 0 ∷ get_or xs 3 0 ∷ get_or xs 4 0 ∷ get_or xs 5 0 ∷ get_or xs 6 0 ∷ get_or xs 7 0 ∷ []
 first_eight (a ∷ b ∷ c ∷ d ∷ e ∷ f ∷ g ∷ h ∷ rest) enough = refl
 first_eight xs enough = absurd (omega arith)

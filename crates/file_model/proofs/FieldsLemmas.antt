@@ -132,11 +132,6 @@ pub field_none : (bits : List Bool) → field 0 bits ≡ Ok (0, bits)
 unfolding number
 field_none bits = field_whole 0 bits (omega arith)
 
--- what is read by one function is read by another one that is the same
-pub gives_same : {X Y E : Type 0} (view : X → Y) (result : Result X E) (one other : Result Y E) → one ≡ other → Gives view result one → Gives view result other
-gives_same view (Ok value) one other same gives = sym same ∙ gives
-gives_same view (Err fault) one other same gives = sym same ∙ gives
-
 -- a number that was given has so many bits
 pub field_small : (count : ℕ) (result : Result ℕ BitFault) (rest bits : List Bool) → Gives (λ value. (value, rest)) result (field count bits)
     → IfOk result (λ value. value < 2 ^ count)

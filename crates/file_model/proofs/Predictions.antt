@@ -156,3 +156,17 @@ Spells-warm_up weights coded shift depth within = record {
   residual = λ t from inside. let cut = length-take (length weights) coded in absurd (omega (arith, from, inside, cut));
   within = within;
 }
+
+-- a number is its residual to a prediction of 0
+less_none : (x : ℤ) → x ≡ x -ℤ pos 0
+less_none x = omega (arith, ints)
+
+-- where nothing is predicted, a list spells itself
+pub Spells-plain : (depth : ℕ) (xs : List ℤ) → All (IsSample depth) xs → Spells [] 0 depth xs xs
+unfolding weighted_before predicted
+Spells-plain depth xs within = record {
+  as_many = refl;
+  warm_up = λ place none. absurd (omega (arith, none));
+  residual = λ place behind inside. less_none (at xs place);
+  within = within;
+}

@@ -12,7 +12,7 @@ use Rattle.file_model.specs.Fields.{field, signed_field, unary_at, rice_at, lead
 use Rattle.file_model.specs.FlacHeader.{codes_at, size_at, rate_at, header_at}
 use Rattle.file_model.specs.FlacFrame.{Frame, footer_at}
 use Rattle.file_model.specs.Outcomes.{times_at}
-use Rattle.file_model.proofs.FrameLaws.{Spells-plain}
+use Rattle.file_model.proofs.Predictions.{Spells-plain}
 use Rattle.file_model.specs.Predict.{at, weighted_before, predicted}
 use Rattle.file_model.specs.Subframe.{Coded, unfolded, IsSpelledBy, subframe_head_at, wasted_at, subframe_at, residual_at, partition_at, partitions_at, residuals_at, predictor_at, content_at}
 

@@ -2,7 +2,7 @@
 use Rattle.std.proofs.Common.{◌≡◌, ◌≢◌, ◌≤◌, ◌<◌, ◌+◌, ◌-◌, ◌^◌, ℕ, ℤ, pos, ◌+ℤ◌, List, [], ◌∷◌, ◌++◌, length, length-take, take, set, get_or, ap, sym, ◌∙◌, subst, arith}
 use Rattle.std.specs.List.{All}
 use Rattle.std.proofs.lemmas.Int.{ints}
-use Rattle.std.proofs.lemmas.List.{take_all, take_more, take_more_set, get_or-set_other}
+use Rattle.std.proofs.lemmas.List.{take_all, take_more, take_more_set, get_or-set_same, get_or-set_other}
 use Rattle.std.proofs.lemmas.List.Elements.{All-get_or, All-from_get_or}
 use Rattle.std.proofs.Math.Pow.{pow_mono}
 use Rattle.lib_base.specs.Sounds.{IsSample}
@@ -83,3 +83,17 @@ Restored-whole weights samples coded shift depth place past same so_far =
     let P : List ℤ → Type 0 = λ xs. Spells weights shift depth xs coded in
     let Q : List ℤ → Type 0 = λ xs. Spells weights shift depth (take place samples) xs in
     subst P (take_all place samples past) (subst Q (take_all place coded (omega (arith, past, same))) so_far.spelled)
+
+-- ---- the last two samples, after one more
+
+pub last_set : (samples : List ℤ) (place : ℕ) (x : ℤ) → place < length samples → x ≡ at (set samples place x) (place + 1 - 1)
+last_set samples place x inside =
+    let here : place ≡ place + 1 - 1 = omega arith in
+    sym (get_or-set_same samples place x (pos 0) inside) ∙ ap (λ (n : ℕ). at (set samples place x) n) here
+
+pub before_set : (samples : List ℤ) (place : ℕ) (x last : ℤ) → 1 ≤ place → last ≡ at samples (place - 1)
+    → last ≡ at (set samples place x) (place + 1 - 2)
+before_set samples place x last behind is =
+    let other : place - 1 ≢ place = omega arith in
+    let there : place - 1 ≡ place + 1 - 2 = omega arith in
+    is ∙ sym (get_or-set_other samples place (place - 1) x (pos 0) other) ∙ ap (λ (n : ℕ). at (set samples place x) n) there

@@ -1,10 +1,11 @@
 -- The sum of weights by samples, a product at a time.
-use Rattle.std.proofs.Common.{◌≡◌, ◌≤◌, ◌<◌, ◌+◌, ◌-◌, ◌*◌, ◌^◌, ℕ, zero, suc, ℤ, pos, negsuc, ◌+ℤ◌, ◌*ℤ◌, List, [], ◌∷◌, length, take, get_or, refl, ap, sym, ◌∙◌, add-one, arith, unsigned_abs, w64, FitsSigned}
+use Rattle.std.proofs.Common.{◌≡◌, ◌≤◌, ◌<◌, ◌+◌, ◌-◌, ◌*◌, ◌^◌, ℕ, zero, suc, ℤ, pos, negsuc, neg_ℤ, ◌+ℤ◌, ◌-ℤ◌, ◌*ℤ◌, List, [], ◌∷◌, length, take, get_or, refl, ap, sym, ◌∙◌, add-one, arith, unsigned_abs, w64, FitsSigned}
 use Rattle.std.specs.Int.{int_div_euclid}
 use Rattle.std.specs.Int.Signed.{shr_z}
 use Rattle.std.proofs.lemmas.Int.{ints, fits_signed_from_abs}
+use Rattle.std.proofs.Math.Nat.{div-one}
 use Rattle.std.proofs.lemmas.Nat.{shr_le}
-use Rattle.file_model.specs.Predict.{at, weighted_before, predicted}
+use Rattle.file_model.specs.Predict.{at, fixed_weights, weighted_before, predicted}
 
 first_product : (p : ℤ) → p +ℤ pos 0 ≡ pos 0 +ℤ p
 first_product p = omega (arith, ints)
@@ -51,3 +52,23 @@ shifted_small (negsuc n) shift = let less = shr_le n shift in omega (arith, less
 pub shifted_fits : (sum : ℤ) (shift : ℕ) → unsigned_abs sum ≤ 2 ^ 43 → FitsSigned w64 (shr_z sum (2 ^ shift))
 shifted_fits sum shift small =
     let less = shifted_small sum shift in fits_signed_from_abs w64 (shr_z sum (2 ^ shift)) (omega (arith, less, small))
+
+-- ---- order 2
+
+undivided : (z : ℤ) → int_div_euclid z (pos 1) ≡ z
+undivided (pos n) = ap pos (div-one n)
+undivided (negsuc n) = ap negsuc (div-one n)
+
+line : (a b : ℤ) → (pos 2 *ℤ a) +ℤ ((neg_ℤ (pos 1) *ℤ b) +ℤ pos 0) ≡ (pos 2 *ℤ a) -ℤ b
+line a b = omega (arith, ints)
+
+-- the prediction of order 2 goes on in a straight line
+pub straight_predicted : (samples : List ℤ) (place : ℕ) (last before : ℤ) → last ≡ at samples (place - 1) → before ≡ at samples (place - 2)
+    → (pos 2 *ℤ last) -ℤ before ≡ predicted (fixed_weights 2) 0 samples place
+unfolding predicted weighted_before
+straight_predicted samples place last before is_last is_before =
+    let there : place - 2 ≡ place - 1 - 1 = omega arith in
+    ap (λ (z : ℤ). (pos 2 *ℤ z) -ℤ before) is_last
+    ∙ ap (λ (z : ℤ). (pos 2 *ℤ at samples (place - 1)) -ℤ z) (is_before ∙ ap (λ (n : ℕ). at samples n) there)
+    ∙ sym (line (at samples (place - 1)) (at samples (place - 1 - 1)))
+    ∙ sym (undivided ((pos 2 *ℤ at samples (place - 1)) +ℤ ((neg_ℤ (pos 1) *ℤ at samples (place - 1 - 1)) +ℤ pos 0)))

@@ -14,10 +14,10 @@ overflow_add-value c = let fits = coded_fits c.loop.counter c.loop.value (omega 
 pub loop-preserved : goal.loop-preserved
 loop-preserved c = record {
   goes =
-    ap (λ (n : ℕ). coded_more (c.args.count - (c.loop.counter + 1)) (c.loop.value * 64 + n) (left c.take.new.self)) c.from.ensures
-    ∙ sym (coded_step (c.args.count - c.loop.counter) (c.args.count - (c.loop.counter + 1)) c.loop.value c.in-Ok.next (left c.loop.self) (left c.take.new.self)
-    (omega arith) c.in-Ok.ensures.gives c.if-next-ne2.false)
-    ∙ c.loop.invariant.goes;
+      ap (λ (n : ℕ). coded_more (c.args.count - (c.loop.counter + 1)) (c.loop.value * 64 + n) (left c.take.new.self)) c.from.ensures
+      ∙ sym (coded_step (c.args.count - c.loop.counter) (c.args.count - (c.loop.counter + 1)) c.loop.value c.in-Ok.next (left c.loop.self) (left c.take.new.self)
+      (omega arith) c.in-Ok.ensures.gives c.if-next-ne2.false)
+      ∙ c.loop.invariant.goes;
   whole = c.in-Ok.ensures.whole ∙ c.loop.invariant.whole;
-  small = coded_small c.loop.counter c.loop.value c.from.result c.loop.invariant.small (omega arith)
+  small = coded_small c.loop.counter c.loop.value c.from.result c.loop.invariant.small (omega arith);
 }

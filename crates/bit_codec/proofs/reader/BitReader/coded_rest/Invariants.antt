@@ -8,5 +8,5 @@ abbrev pub invariant-loop : goal.invariant-loop
 invariant-loop l = record {
   goes : coded_more (l.count - l.counter) l.value (left l.self) ≡ coded_more l.count l.fn.high (left l.fn.self);
   whole : source l.self ≡ source l.fn.self;
-  small : l.value < 128 * 64 ^ l.counter
+  small : l.value < 128 * 64 ^ l.counter;
 }

@@ -8,7 +8,7 @@ use Rattle.bit_codec.proofs.reader.BitReader.pass_zeros.Given as goal
 abbrev pub invariant-loop-count : goal.invariant-loop-count
 invariant-loop-count l = record {
   goes : held_behind l.zeros (unary_at (left l.self)) ≡ held (unary_at (left l.fn.self));
-  whole : source l.self ≡ source l.fn.self
+  whole : source l.self ≡ source l.fn.self;
 }
 
 abbrev pub decreases-loop-count : goal.decreases-loop-count

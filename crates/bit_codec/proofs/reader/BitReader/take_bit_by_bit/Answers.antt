@@ -27,7 +27,7 @@ overflow_add-value c =
 pub loop-preserved : goal.loop-preserved
 loop-preserved c = record {
   goes =
-    field_step c.loop.counter c.loop.value c.from.result (left c.args.self.now) (left c.loop.ahead) (left c.next_bit.new.self) c.in-Some.bit
-    c.loop.invariant.goes c.in-Some.ensures.gives c.from.ensures;
-  whole = c.in-Some.ensures.whole ∙ c.loop.invariant.whole
+      field_step c.loop.counter c.loop.value c.from.result (left c.args.self.now) (left c.loop.ahead) (left c.next_bit.new.self) c.in-Some.bit
+      c.loop.invariant.goes c.in-Some.ensures.gives c.from.ensures;
+  whole = c.in-Some.ensures.whole ∙ c.loop.invariant.whole;
 }

@@ -7,5 +7,5 @@ use Rattle.bit_codec.proofs.reader.BitReader.take_bit_by_bit.Given as goal
 abbrev pub invariant-loop : goal.invariant-loop
 invariant-loop l = record {
   goes : field l.counter (left l.fn.self) ≡ Ok (l.value, left l.ahead);
-  whole : source l.ahead ≡ source l.fn.self
+  whole : source l.ahead ≡ source l.fn.self;
 }

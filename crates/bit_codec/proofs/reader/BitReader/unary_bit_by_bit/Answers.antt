@@ -15,12 +15,12 @@ returns-then-bit-clause-gives c =
 pub loop-bit-preserved : goal.loop-bit-preserved
 loop-bit-preserved c = record {
   goes =
-    ap (λ (n : ℕ). held_behind n (unary_at (left c.next_bit.new.self))) c.saturating_add-count.ensures
-    ∙ sym (unary_on_zero c.loop-bit.count (left c.loop-bit.self) (left c.next_bit.new.self)
-    (c.in-Some.ensures.gives ∙ ap (λ (b : Bool). b ∷ left c.next_bit.new.self) c.if-bit.false))
-    ∙ c.loop-bit.invariant.goes;
+      ap (λ (n : ℕ). held_behind n (unary_at (left c.next_bit.new.self))) c.saturating_add-count.ensures
+      ∙ sym (unary_on_zero c.loop-bit.count (left c.loop-bit.self) (left c.next_bit.new.self)
+      (c.in-Some.ensures.gives ∙ ap (λ (b : Bool). b ∷ left c.next_bit.new.self) c.if-bit.false))
+      ∙ c.loop-bit.invariant.goes;
   whole = c.in-Some.ensures.whole ∙ c.loop-bit.invariant.whole;
-  fits = omega arith
+  fits = omega arith;
 }
 
 pub returns-clause-gives : goal.returns-clause-gives

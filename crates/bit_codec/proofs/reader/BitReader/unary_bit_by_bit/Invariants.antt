@@ -9,7 +9,7 @@ abbrev pub invariant-loop-bit : goal.invariant-loop-bit
 invariant-loop-bit l = record {
   goes : held_behind l.count (unary_at (left l.self)) ≡ held_behind l.fn.zeros (unary_at (left l.fn.self));
   whole : source l.self ≡ source l.fn.self;
-  fits : l.count < 2 ^ 64
+  fits : l.count < 2 ^ 64;
 }
 
 abbrev pub decreases-loop-bit : goal.decreases-loop-bit
