@@ -22,6 +22,7 @@ gcc -O2 -o "$work/filter_plain" bench/filter.c
 gcc -O2 -o "$work/peak" bench/peak.c
 gcc -O2 -o "$work/predict" bench/predict.c
 gcc -O2 -o "$work/fill" bench/fill.c
+gcc -O2 -o "$work/bits" bench/bits.c
 
 # seconds of processor time, and what the program printed in the file `sum`
 timed() {
@@ -59,6 +60,9 @@ compare "$flac" fixed 40000 4096 "$work/predict" "C"
 compare "$flac" linear8 20000 4096 "$work/predict" "C"
 compare "$flac" linear12 20000 4096 "$work/predict" "C"
 compare "$flac" linear32 10000 4096 "$work/predict" "C"
+compare "$flac" rice4 5000 80000 "$work/bits" "C"
+compare "$flac" rice10 10000 40000 "$work/bits" "C"
+compare "$flac" crc16 10000 65536 "$work/bits" "C"
 
 # ---- a session of one import that nearly fills the input's limit: a wave of noise, two channels of 16 bits
 

@@ -4,6 +4,7 @@
 //! round, which a plain C program of the same definition prints too.
 #![tactic(auto)]
 
+mod bits;
 mod noise;
 mod prediction;
 
@@ -22,6 +23,9 @@ fn main(rt: HostRuntime) -> Result<()> {
         "linear8" => prediction::linear(alloc, 8, rounds)?,
         "linear12" => prediction::linear(alloc, 12, rounds)?,
         "linear32" => prediction::linear(alloc, 32, rounds)?,
+        "rice4" => bits::rice(alloc, 4, 80_000, rounds)?,
+        "rice10" => bits::rice(alloc, 10, 40_000, rounds)?,
+        "crc16" => bits::frame_check(alloc, rounds)?,
         _ => bail!("no such kind"),
     };
     println!(rt; "{checksum}")?;

@@ -1,12 +1,12 @@
 -- Lemmas on checks as numbers.
 use Rattle.std.proofs.Common.{◌≡◌, ◌≤◌, ◌<◌, ◌+◌, ◌-◌, ◌*◌, ◌/◌, ◌%◌, ◌^◌, ℕ, zero, suc, Bool, true, false, List, [], ◌∷◌, ◌++◌, length, take, drop, get_or, replicate, append_assoc, length-append, length-drop, refl, sym, ap, ◌∙◌, subst, arith}
-use Rattle.std.specs.Int.Bits.{bit_xor, xor_zero_r, xor_lt}
+use Rattle.std.specs.Int.Bits.{bit_xor, xor_zero_l, xor_zero_r, xor_shr, xor_mod, xor_assoc}
 use Rattle.std.proofs.lemmas.List.{append-nil, length-replicate, replicate-append-replicate, take_more, take-append-drop, length-take-le}
 use Rattle.std.proofs.Math.Seq.{take-add}
-use Rattle.std.proofs.lemmas.Nat.{shr-shr}
+use Rattle.std.proofs.lemmas.Nat.{shr-shr, shl-shr}
 use Rattle.file_model.specs.Bits.{bits_in, bits, number}
 use Rattle.file_model.specs.Crc.{less, divided, remainder, crc8, crc16, header_divisor, frame_divisor}
-use Rattle.file_model.proofs.BitsLemmas.{number-append, number-below, number-bits_in, bits_in-number, bits_in-add, bits_in-mod, length-bits_in, length-bits, bits-append, bits-cons}
+use Rattle.file_model.proofs.BitsLemmas.{eight, number-append, number-below, number-bits_in, bits_in-number, bits_in-add, bits_in-mod, length-bits_in, length-bits, bits-append, bits-cons}
 use Rattle.file_model.proofs.CrcLemmas.{length-less, less-longer, length-remainder, remainder-append, remainder-append-short, remainder-split, number-less}
 
 -- bits, from their number
@@ -96,7 +96,7 @@ crc16_more before check byte entry below_check below_byte is is_entry =
     ∙ check_byte (bits before) check byte below_check below_byte is)
 
 -- a check after eight more bytes is that of one number
-pub crc16_word : (before next : List ℕ) (check word : ℕ) → length next ≡ 8 → word ≡ number (bits next) → check ≡ crc16 before
+crc16_word : (before next : List ℕ) (check word : ℕ) → length next ≡ 8 → word ≡ number (bits next) → check ≡ crc16 before
     → number (remainder frame_divisor (bits_in 64 (bit_xor (check * 2 ^ 48) word))) ≡ crc16 (before ++ next)
 unfolding crc16
 crc16_word before next check word size is_word is =
@@ -160,7 +160,7 @@ step_at size behind word shifted is =
     ∙ ap (bit_xor (front_check size (8 + behind) (word / 2 ^ (behind + 8)))) (byte_mod behind (word / 2 ^ behind))
 
 -- the check over a word is that of its bytes, each with zeros in place of those behind it
-pub word_check : (word : ℕ)
+word_check : (word : ℕ)
     → bit_xor (bit_xor (bit_xor (bit_xor (bit_xor (bit_xor (bit_xor (byte_check 56 (word / 2 ^ 56)) (byte_check 48 (word / 2 ^ 48 % 256))) (byte_check 40 (word / 2 ^ 40 % 256)))
     (byte_check 32 (word / 2 ^ 32 % 256))) (byte_check 24 (word / 2 ^ 24 % 256))) (byte_check 16 (word / 2 ^ 16 % 256))) (byte_check 8 (word / 2 ^ 8 % 256))) (byte_check 0 (word % 256))
     ≡ number (remainder frame_divisor (bits_in 64 word))
@@ -187,12 +187,80 @@ both : (a b c d : ℕ) → a ≡ c → b ≡ d → bit_xor a b ≡ bit_xor c d
 both a b c d first second = ap (λ (n : ℕ). bit_xor n b) first ∙ ap (bit_xor c) second
 
 -- the same, by entries of the tables
-pub word_entries : (word e7 e6 e5 e4 e3 e2 e1 e0 : ℕ) → e7 ≡ byte_check 56 (word / 2 ^ 56) → e6 ≡ byte_check 48 (word / 2 ^ 48 % 256) → e5 ≡ byte_check 40 (word / 2 ^ 40 % 256)
+word_entries : (word e7 e6 e5 e4 e3 e2 e1 e0 : ℕ) → e7 ≡ byte_check 56 (word / 2 ^ 56) → e6 ≡ byte_check 48 (word / 2 ^ 48 % 256) → e5 ≡ byte_check 40 (word / 2 ^ 40 % 256)
     → e4 ≡ byte_check 32 (word / 2 ^ 32 % 256) → e3 ≡ byte_check 24 (word / 2 ^ 24 % 256) → e2 ≡ byte_check 16 (word / 2 ^ 16 % 256) → e1 ≡ byte_check 8 (word / 2 ^ 8 % 256)
     → e0 ≡ byte_check 0 (word % 256)
     → bit_xor (bit_xor (bit_xor (bit_xor (bit_xor (bit_xor (bit_xor e7 e6) e5) e4) e3) e2) e1) e0 ≡ number (remainder frame_divisor (bits_in 64 word))
 word_entries word e7 e6 e5 e4 e3 e2 e1 e0 is_7 is_6 is_5 is_4 is_3 is_2 is_1 is_0 =
     both _ _ _ _ (both _ _ _ _ (both _ _ _ _ (both _ _ _ _ (both _ _ _ _ (both _ _ _ _ (both _ _ _ _ is_7 is_6) is_5) is_4) is_3) is_2) is_1) is_0 ∙ word_check word
+
+-- the front of a word with a check above it
+word_front : (check word : ℕ) → bit_xor (check * 2 ^ 48) word / 2 ^ 48 ≡ bit_xor check (word / 2 ^ 48)
+word_front check word = xor_shr (check * 2 ^ 48) word 48 ∙ ap (λ (n : ℕ). bit_xor n (word / 2 ^ 48)) (shl-shr check 48)
+
+word_first : (check word : ℕ) → bit_xor (check * 2 ^ 48) word / 2 ^ 56 ≡ bit_xor check (word / 2 ^ 48) / 2 ^ 8
+word_first check word = sym (shr-shr (bit_xor (check * 2 ^ 48) word) 48 8) ∙ ap (λ (n : ℕ). n / 2 ^ 8) (word_front check word)
+
+-- the other bytes of the word know nothing of the check
+word_byte : (check word shift : ℕ) → check * 2 ^ 48 / 2 ^ shift % 2 ^ 8 ≡ 0 → bit_xor (check * 2 ^ 48) word / 2 ^ shift % 256 ≡ word / 2 ^ shift % 256
+word_byte check word shift none =
+    ap (λ (n : ℕ). n % 256) (xor_shr (check * 2 ^ 48) word shift) ∙ xor_mod (check * 2 ^ 48 / 2 ^ shift) (word / 2 ^ shift) 8
+    ∙ ap (λ (n : ℕ). bit_xor n (word / 2 ^ shift % 2 ^ 8)) none ∙ xor_zero_l (word / 2 ^ shift % 2 ^ 8)
+
+regrouped : (a f e d c b g : ℕ) → bit_xor a (bit_xor (bit_xor (bit_xor (bit_xor (bit_xor f e) d) c) b) g) ≡ bit_xor (bit_xor (bit_xor (bit_xor (bit_xor (bit_xor a f) e) d) c) b) g
+regrouped a f e d c b g =
+    sym (xor_assoc a (bit_xor (bit_xor (bit_xor (bit_xor f e) d) c) b) g)
+    ∙ ap (λ (n : ℕ). bit_xor n g) (sym (xor_assoc a (bit_xor (bit_xor (bit_xor f e) d) c) b)
+    ∙ ap (λ (n : ℕ). bit_xor n b) (sym (xor_assoc a (bit_xor (bit_xor f e) d) c)
+    ∙ ap (λ (n : ℕ). bit_xor n c) (sym (xor_assoc a (bit_xor f e) d)
+    ∙ ap (λ (n : ℕ). bit_xor n d) (sym (xor_assoc a f e)))))
+
+-- the check after a word, by entries of the tables
+crc16_entries : (before next : List ℕ) (check word high e7 e6 e5 e4 e3 e2 e1 e0 : ℕ) → length next ≡ 8 → word ≡ number (bits next) → check ≡ crc16 before
+    → high ≡ bit_xor check (word / 2 ^ 48)
+    → e7 ≡ byte_check 56 (high / 2 ^ 8) → e6 ≡ byte_check 48 (high % 256) → e5 ≡ byte_check 40 (word / 2 ^ 40 % 256)
+    → e4 ≡ byte_check 32 (word / 2 ^ 32 % 256) → e3 ≡ byte_check 24 (word / 2 ^ 24 % 256) → e2 ≡ byte_check 16 (word / 2 ^ 16 % 256) → e1 ≡ byte_check 8 (word / 2 ^ 8 % 256)
+    → e0 ≡ byte_check 0 (word % 256)
+    → bit_xor (bit_xor e7 e6) (bit_xor (bit_xor (bit_xor (bit_xor (bit_xor e5 e4) e3) e2) e1) e0) ≡ crc16 (before ++ next)
+crc16_entries before next check word high e7 e6 e5 e4 e3 e2 e1 e0 size is_word is is_high is_7 is_6 is_5 is_4 is_3 is_2 is_1 is_0 =
+    let whole : ℕ = bit_xor (check * 2 ^ 48) word in
+    let first : high / 2 ^ 8 ≡ whole / 2 ^ 56 = ap (λ (n : ℕ). n / 2 ^ 8) is_high ∙ sym (word_first check word) in
+    let second : high % 256 ≡ whole / 2 ^ 48 % 256 = ap (λ (n : ℕ). n % 256) (is_high ∙ sym (word_front check word)) in
+    let same_0 : whole % 256 ≡ word % 256 =
+    (let start : whole ≡ whole / 2 ^ 0 = omega arith in let end : word / 2 ^ 0 ≡ word = omega arith in
+    ap (λ (n : ℕ). n % 256) start ∙ word_byte check word 0 (omega arith) ∙ ap (λ (n : ℕ). n % 256) end) in
+    regrouped (bit_xor e7 e6) e5 e4 e3 e2 e1 e0
+    ∙ word_entries whole e7 e6 e5 e4 e3 e2 e1 e0 (is_7 ∙ ap (byte_check 56) first) (is_6 ∙ ap (byte_check 48) second)
+    (is_5 ∙ ap (byte_check 40) (sym (word_byte check word 40 (omega arith)))) (is_4 ∙ ap (byte_check 32) (sym (word_byte check word 32 (omega arith))))
+    (is_3 ∙ ap (byte_check 24) (sym (word_byte check word 24 (omega arith)))) (is_2 ∙ ap (byte_check 16) (sym (word_byte check word 16 (omega arith))))
+    (is_1 ∙ ap (byte_check 8) (sym (word_byte check word 8 (omega arith)))) (is_0 ∙ ap (byte_check 0) (sym same_0))
+    ∙ crc16_word before next check word size is_word is
+
+-- the check after eight bytes, by entries of the tables
+pub crc16_bytes : (before : List ℕ) (check : ℕ) (b : ℕ → ℕ) (e7 e6 e5 e4 e3 e2 e1 e0 : ℕ) → ((i : ℕ) → b i < 256) → check ≡ crc16 before
+    → e7 ≡ byte_check 56 (bit_xor (check / 256) (b 0)) → e6 ≡ byte_check 48 (bit_xor (check % 256) (b 1)) → e5 ≡ byte_check 40 (b 2) → e4 ≡ byte_check 32 (b 3)
+    → e3 ≡ byte_check 24 (b 4) → e2 ≡ byte_check 16 (b 5) → e1 ≡ byte_check 8 (b 6) → e0 ≡ byte_check 0 (b 7)
+    → bit_xor (bit_xor e7 e6) (bit_xor (bit_xor (bit_xor (bit_xor (bit_xor e5 e4) e3) e2) e1) e0)
+    ≡ crc16 (before ++ b 0 ∷ b 1 ∷ b 2 ∷ b 3 ∷ b 4 ∷ b 5 ∷ b 6 ∷ b 7 ∷ [])
+crc16_bytes before check b e7 e6 e5 e4 e3 e2 e1 e0 bytes is is_7 is_6 is_5 is_4 is_3 is_2 is_1 is_0 =
+    let next : List ℕ = b 0 ∷ b 1 ∷ b 2 ∷ b 3 ∷ b 4 ∷ b 5 ∷ b 6 ∷ b 7 ∷ [] in
+    let word : ℕ = number (bits next) in
+    let high : ℕ = bit_xor check (word / 2 ^ 48) in
+    let sum = eight (b 0) (b 1) (b 2) (b 3) (b 4) (b 5) (b 6) (b 7) (bytes 0) (bytes 1) (bytes 2) (bytes 3) (bytes 4) (bytes 5) (bytes 6) (bytes 7) in
+    let b0 = bytes 0 in let b1 = bytes 1 in let b2 = bytes 2 in let b3 = bytes 3 in let b4 = bytes 4 in let b5 = bytes 5 in let b6 = bytes 6 in let b7 = bytes 7 in
+    let top : word / 2 ^ 48 / 2 ^ 8 ≡ b 0 = omega arith in
+    let next_top : word / 2 ^ 48 % 2 ^ 8 ≡ b 1 = omega arith in
+    let at_5 : b 2 ≡ word / 2 ^ 40 % 256 = omega arith in
+    let at_4 : b 3 ≡ word / 2 ^ 32 % 256 = omega arith in
+    let at_3 : b 4 ≡ word / 2 ^ 24 % 256 = omega arith in
+    let at_2 : b 5 ≡ word / 2 ^ 16 % 256 = omega arith in
+    let at_1 : b 6 ≡ word / 2 ^ 8 % 256 = omega arith in
+    let at_0 : b 7 ≡ word % 256 = omega arith in
+    let first : bit_xor (check / 256) (b 0) ≡ high / 2 ^ 8 = sym (xor_shr check (word / 2 ^ 48) 8 ∙ ap (bit_xor (check / 2 ^ 8)) top) in
+    let second : bit_xor (check % 256) (b 1) ≡ high % 256 = sym (xor_mod check (word / 2 ^ 48) 8 ∙ ap (bit_xor (check % 2 ^ 8)) next_top) in
+    crc16_entries before next check word high e7 e6 e5 e4 e3 e2 e1 e0 refl refl is refl
+    (is_7 ∙ ap (byte_check 56) first) (is_6 ∙ ap (byte_check 48) second) (is_5 ∙ ap (byte_check 40) at_5) (is_4 ∙ ap (byte_check 32) at_4)
+    (is_3 ∙ ap (byte_check 24) at_3) (is_2 ∙ ap (byte_check 16) at_2) (is_1 ∙ ap (byte_check 8) at_1) (is_0 ∙ ap (byte_check 0) at_0)
 
 pub byte_check_below : (behind byte : ℕ) → byte_check behind byte < 65536
 byte_check_below behind byte =
@@ -237,12 +305,10 @@ pub crc16_whole : (bytes back : List ℕ) (whole check : ℕ) → back ≡ drop 
 crc16_whole bytes back whole check is_back is =
     is ∙ ap (λ (xs : List ℕ). crc16 (take whole bytes ++ xs)) is_back ∙ ap crc16 (take-append-drop whole bytes)
 
-pub words_step : (bytes rest : List ℕ) (place check word next : ℕ) → rest ≡ drop (8 * place) bytes → 8 * place + 8 ≤ length bytes → word ≡ number (bits (take 8 rest))
-    → check ≡ crc16 (take (8 * place) bytes)
-    → ((before after : List ℕ) → length after ≡ 8 → word ≡ number (bits after) → check ≡ crc16 before → next ≡ crc16 (before ++ after))
-    → next ≡ crc16 (take (8 * (place + 1)) bytes)
-words_step bytes rest place check word next is_rest within is_word is goes =
-    let size : length (take 8 (drop (8 * place) bytes)) ≡ 8 = length-take-le 8 (drop (8 * place) bytes) (let left = length-drop (8 * place) bytes in omega arith) in
+pub eights_step : (bytes rest : List ℕ) (place check next : ℕ) → rest ≡ drop (8 * place) bytes → check ≡ crc16 (take (8 * place) bytes)
+    → ((before : List ℕ) → check ≡ crc16 before → next ≡ crc16 (before ++ take 8 rest)) → next ≡ crc16 (take (8 * (place + 1)) bytes)
+eights_step bytes rest place check next is_rest is goes =
     let more : 8 * (place + 1) ≡ 8 * place + 8 = omega arith in
-    goes (take (8 * place) bytes) (take 8 (drop (8 * place) bytes)) size (is_word ∙ ap (λ (xs : List ℕ). number (bits (take 8 xs))) is_rest) is
+    goes (take (8 * place) bytes) is
+    ∙ ap (λ (xs : List ℕ). crc16 (take (8 * place) bytes ++ take 8 xs)) is_rest
     ∙ ap crc16 (sym (take-add (8 * place) 8 bytes) ∙ ap (λ (k : ℕ). take k bytes) (sym more))

@@ -1,10 +1,8 @@
 //! Cyclic redundancy checks, by tables.
-ghost use Rattle.std.specs.Prelude.{◌≡◌, ◌<◌, ◌++◌, ◌*◌, ◌/◌, ℕ, List, [], ◌∷◌, length, take};
-ghost use Rattle.file_model.specs.Bits.{bits, bits_in, number};
-ghost use Rattle.file_model.specs.Crc.{crc8, crc16, frame_divisor, remainder};
+ghost use Rattle.std.specs.Prelude.{◌≡◌, ◌≤◌, ◌++◌, ◌*◌, ◌/◌, ℕ, List, [], ◌∷◌, length, take};
+ghost use Rattle.file_model.specs.Crc.{crc8, crc16};
 
 use crate::tables::{frame_entry, header_entry};
-use crate::windows::word;
 
 /// The check of eight bits over a frame's header, whose bytes these are: the remainder of their bits
 /// by x^8 + x^2 + x + 1.
@@ -24,7 +22,7 @@ pub fn crc16(bytes: &[u8]) -> u16
     ensures { result ≡ crc16 bytes.now }
 {
     let whole = 8 * (bytes.len() / 8);
-    let mut check = over_words(bytes);
+    let mut check = over_eights(bytes);
     for byte in bytes.split_at(whole).1 {
         check = after_byte(check, *byte);
     }
@@ -32,13 +30,13 @@ pub fn crc16(bytes: &[u8]) -> u16
 }
 
 /// The check over all but the last few bytes, eight in each step.
-fn over_words(bytes: &[u8]) -> u16
+fn over_eights(bytes: &[u8]) -> u16
     ensures { result ≡ crc16 (take (8 * (length bytes.now / 8)) bytes.now) }
 {
     let mut check = 0u16;
     for place in 0..bytes.len() / 8 {
         let rest = bytes.split_at(8 * place).1;
-        check = after_word(check, word(rest));
+        check = after_eight(check, rest);
     }
     check
 }
@@ -49,30 +47,24 @@ fn after_byte(check: u16, byte: u8) -> u16
     ensures { (before : List ℕ) → check ≡ crc16 before → result ≡ crc16 (before ++ byte ∷ []) }
 {
     let place = (check / 256) as u8 ^ byte;
-    frame_entry(0, u64::from(place)) ^ (check % 256 * 256)
+    frame_entry(0, place) ^ (check % 256 * 256)
 }
 
-/// The check after eight more bytes, whose number this is.
+/// The check after the first eight of more bytes: over each one, with zeros in place of those behind
+/// it.
 #[inline(always)]
-fn after_word(check: u16, word: u64) -> u16
-    ensures { (before next : List ℕ) → length next ≡ 8 → word ≡ number (bits next)
-        → check ≡ crc16 before → result ≡ crc16 (before ++ next) }
+fn after_eight(check: u16, next: &[u8]) -> u16
+    requires { 8 ≤ length next.now }
+    ensures { (before : List ℕ) → check ≡ crc16 before → result ≡ crc16 (before ++ take 8 next.now) }
 {
-    // the remainder so far goes with the first bytes
-    over_word((u64::from(check) << 48) ^ word)
-}
-
-/// The check over the eight bytes of a number: over each one, with zeros in place of those behind it.
-#[inline(always)]
-fn over_word(word: u64) -> u16
-    ensures { result ≡ number (remainder frame_divisor (bits_in 64 word)) }
-{
-    frame_entry(7, word >> 56)
-        ^ frame_entry(6, (word >> 48) % 256)
-        ^ frame_entry(5, (word >> 40) % 256)
-        ^ frame_entry(4, (word >> 32) % 256)
-        ^ frame_entry(3, (word >> 24) % 256)
-        ^ frame_entry(2, (word >> 16) % 256)
-        ^ frame_entry(1, (word >> 8) % 256)
-        ^ frame_entry(0, word % 256)
+    // these need not wait for the check so far, which goes with the first two bytes
+    let back = frame_entry(5, next[2])
+        ^ frame_entry(4, next[3])
+        ^ frame_entry(3, next[4])
+        ^ frame_entry(2, next[5])
+        ^ frame_entry(1, next[6])
+        ^ frame_entry(0, next[7]);
+    let first = (check / 256) as u8 ^ next[0];
+    let second = (check % 256) as u8 ^ next[1];
+    frame_entry(7, first) ^ frame_entry(6, second) ^ back
 }

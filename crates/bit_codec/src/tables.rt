@@ -13,9 +13,8 @@ pub(crate) fn header_entry(byte: u8) -> u8
 
 /// What a byte with so many bytes of zeros behind it leaves of a frame's check.
 #[inline(always)]
-pub(crate) fn frame_entry(zeros: usize, byte: u64) -> u16
-    requires few { zeros < 8 }
-    requires byte { byte < 256 }
+pub(crate) fn frame_entry(zeros: usize, byte: u8) -> u16
+    requires { zeros < 8 }
     ensures { result ≡ number (remainder frame_divisor
         (bits_in 8 byte ++ replicate (8 * zeros) false)) }
 {

@@ -1,51 +1,17 @@
 -- Bytes have at most one outcome as a frame: one that is a frame is broken by no rule, and its
 -- samples are one.
-use Rattle.std.proofs.Common.{◌≡◌, ◌*◌, ◌^◌, ◌⊎◌, inl, inr, ℕ, List, [], ◌∷◌, Option, None, Some, refl, ap, sym, ◌∙◌, subst, arith}
+use Rattle.std.proofs.Common.{◌≡◌, ◌^◌, inl, inr, ℕ, List, [], ◌∷◌, Option, None, Some, refl, ap, sym, ◌∙◌, subst, arith}
 use Rattle.std.specs.Prelude.{ℤ, pos, ◌*ℤ◌, ◌-ℤ◌, map, All, Bool, Result, Ok, Err}
-use Rattle.std.proofs.lemmas.Int.{ints}
-use Rattle.lib_base.specs.Sounds.{IsSample}
-use Rattle.file_model.specs.Predict.{at, weighted_before, predicted, Spells}
 use Rattle.file_model.specs.declared.flac_info.Info.{Info}
 use Rattle.file_model.specs.declared.flac_rules.FlacRule.TheVariants.{OutOfRange}
 use Rattle.file_model.specs.declared.pairs.Stereo.{Stereo}
-use Rattle.file_model.specs.Bits.{bits}
 use Rattle.file_model.specs.FlacHeader.{FlacHeader, header_at}
-use Rattle.file_model.specs.FlacFrame.{FlacFrame, depths_of, Channels, IsPairOf, Sounding, footer_at, Body, Frame}
+use Rattle.file_model.specs.FlacFrame.{depths_of, Channels, IsPairOf, Sounding, footer_at, Body, Frame}
 use Rattle.file_model.specs.Outcomes.{Is, Then, Finds}
 use Rattle.file_model.specs.Subframe.{Coded, subframe_at, IsSpelledBy, Channel}
+use Rattle.file_model.proofs.OutcomesLemmas.{HoldsOnce, is_decides, then_decides, finds_decides}
 use Rattle.file_model.proofs.Predictions.{Spells_unique}
 use Rattle.file_model.proofs.Pairings.{SpellsPair_unique}
-
--- a fact holds of at most one thing
-abbrev pub HoldsOnce : {X : Type 0} → (X → Type 0) → Type 0
-HoldsOnce {X = X} Holds = (one other : X) → Holds one → Holds other → one ≡ other
-
-pub is_decides : {B E : Type 0} (given : Result B E) → HoldsOnce (Is given)
-is_decides given one other h k = h ∙ sym k
-
--- where each of two readings has at most one outcome, both have, one after the other
-pub then_decides : {A B E : Type 0} (First : Result A E → Type 0) (Next : A → Result B E → Type 0) → HoldsOnce First
-    → ((value : A) → HoldsOnce (Next value)) → HoldsOnce (Then First Next)
-then_decides First Next first next one other (inl (v, h, n)) (inl (w, k, m)) =
-    let outcomes = first (Ok v) (Ok w) h k in
-    let same : v ≡ w = cc in
-    next w one other (subst (λ x. Next x one) same n) m
-then_decides First Next first next one other (inl (v, h, n)) (inr (fault, k, m)) =
-    let outcomes = first (Ok v) (Err fault) h k in cc
-then_decides First Next first next one other (inr (fault, h, n)) (inl (w, k, m)) =
-    let outcomes = first (Err fault) (Ok w) h k in cc
-then_decides First Next first next one other (inr (fault, h, n)) (inr (rule, k, m)) =
-    let outcomes = first (Err fault) (Err rule) h k in cc
-
--- where a fact holds of at most one value, what is found has at most one outcome
-pub finds_decides : {A E : Type 0} (Holds : A → Type 0) (fault : E) → HoldsOnce Holds → HoldsOnce (Finds Holds fault)
-finds_decides Holds fault once (Ok one) (Ok other) h k = ap Ok (once one other h k)
-finds_decides Holds fault once (Ok one) (Err rule) h k = absurd (k.0 one h)
-finds_decides Holds fault once (Err rule) (Ok other) h k = absurd (h.0 other k)
-finds_decides Holds fault once (Err one) (Err other) h k = ap Err (h.1 ∙ sym k.1)
-
-less_none : (x : ℤ) → x ≡ x -ℤ pos 0
-less_none x = omega (arith, ints)
 
 -- a coded subframe spells one list of samples
 pub IsSpelledBy_unique : (depth : ℕ) (coded : Coded) → HoldsOnce (IsSpelledBy depth coded)
@@ -53,11 +19,13 @@ IsSpelledBy_unique depth coded one other h k =
     let same = Spells_unique _ h.spelled k.spelled _ _ _ h.spells k.spells in
     h.shifted ∙ ap (map (λ (s : ℤ). s *ℤ pos (2 ^ coded.wasted))) same ∙ sym k.shifted
 
+-- a channel has at most one outcome
 pub Channel_decides : (block depth : ℕ) (rest : List Bool) → HoldsOnce (Channel block depth rest)
 Channel_decides block depth rest =
     then_decides _ _ (is_decides (subframe_at block depth rest))
     (λ coded. then_decides _ _ (finds_decides (IsSpelledBy depth coded.0) OutOfRange (IsSpelledBy_unique depth coded.0)) (λ samples. is_decides _))
 
+-- so have channels, one after another
 pub Channels_decides : (block : ℕ) (depths : List ℕ) (rest : List Bool) → HoldsOnce (Channels block depths rest)
 Channels_decides block [] rest = is_decides _
 Channels_decides block (depth ∷ depths) rest =
@@ -71,12 +39,14 @@ IsPairOf_unique kind depth first second one other (left, right, is, spells) (lef
     let lefts : left ≡ left' = same.0 in
     let rights : right ≡ right' = same.1 in cc
 
+-- so has undoing a pair
 pub Sounding_decides : (stereo : Option Stereo) (depth : ℕ) (lists : List (List ℤ)) → HoldsOnce (Sounding stereo depth lists)
 Sounding_decides None depth lists = is_decides _
 Sounding_decides (Some kind) depth [] = is_decides _
 Sounding_decides (Some kind) depth (first ∷ []) = is_decides _
 Sounding_decides (Some kind) depth (first ∷ second ∷ others) = finds_decides _ OutOfRange (IsPairOf_unique kind depth first second)
 
+-- so has what follows a header
 pub Body_decides : (info : Info) (bytes : List ℕ) (header : FlacHeader) → HoldsOnce (Body info bytes header)
 Body_decides info bytes header =
     then_decides _ _ (Channels_decides header.block (depths_of info.channels info.depth header.stereo) _)
@@ -86,13 +56,3 @@ Body_decides info bytes header =
 -- bytes have at most one outcome: a frame, whose samples are one, or one rule
 pub Frame_decides : (info : Info) (bytes : List ℕ) → HoldsOnce (Frame info bytes)
 Frame_decides info bytes = then_decides _ _ (is_decides (header_at info bytes)) (Body_decides info bytes)
-
--- a list that is coded as it is spells itself
-pub Spells-plain : (depth : ℕ) (xs : List ℤ) → All (IsSample depth) xs → Spells [] 0 depth xs xs
-unfolding weighted_before predicted
-Spells-plain depth xs within = record {
-  as_many = refl;
-  warm_up = λ place none. absurd (omega (arith, none));
-  residual = λ place behind inside. less_none (at xs place);
-  within = within;
-}

@@ -4,6 +4,7 @@ pub mod FieldsLemmas
 pub mod FrameLaws
 pub mod Interleaving
 pub mod Makes
+pub mod OutcomesLemmas
 pub mod Pairings
 pub mod Predictions
 pub mod Readings

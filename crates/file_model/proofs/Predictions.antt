@@ -1,5 +1,5 @@
 -- A coded list spells one list of samples.
-use Rattle.std.proofs.Common.{◌≡◌, ◌≤◌, ◌<◌, ◌+◌, ◌-◌, ◌^◌, ◌⊎◌, inl, inr, ℕ, zero, suc, ℤ, pos, ◌+ℤ◌, ◌-ℤ◌, ◌*ℤ◌, List, [], ◌∷◌, ◌++◌, length, length-append, length-take, min, take, get_or, refl, ap, sym, ◌∙◌, subst, arith, below_more}
+use Rattle.std.proofs.Common.{◌≡◌, ◌≤◌, ◌<◌, ◌+◌, ◌-◌, ◌^◌, inl, inr, ℕ, zero, suc, ℤ, pos, ◌+ℤ◌, ◌-ℤ◌, ◌*ℤ◌, List, [], ◌∷◌, ◌++◌, length, length-append, length-take, min, take, refl, ap, sym, ◌∙◌, subst, arith, below_more}
 use Rattle.std.specs.List.{All}
 use Rattle.std.specs.Int.{int_div_euclid}
 use Rattle.std.proofs.lemmas.Bool.{cases_lt}
@@ -154,5 +154,19 @@ Spells-warm_up weights coded shift depth within = record {
   as_many = refl;
   warm_up = λ t warm. refl;
   residual = λ t from inside. let cut = length-take (length weights) coded in absurd (omega (arith, from, inside, cut));
+  within = within;
+}
+
+-- a number is its residual to a prediction of 0
+less_none : (x : ℤ) → x ≡ x -ℤ pos 0
+less_none x = omega (arith, ints)
+
+-- where nothing is predicted, a list spells itself
+pub Spells-plain : (depth : ℕ) (xs : List ℤ) → All (IsSample depth) xs → Spells [] 0 depth xs xs
+unfolding weighted_before predicted
+Spells-plain depth xs within = record {
+  as_many = refl;
+  warm_up = λ place none. absurd (omega (arith, none));
+  residual = λ place behind inside. less_none (at xs place);
   within = within;
 }

@@ -1,21 +1,20 @@
 -- Worked frames: one of sixteen samples of 1, and the rule that each edit of it breaks.
-use Rattle.std.proofs.Common.{◌≡◌, ◌⊎◌, inl, inr, ℕ, zero, suc, Bool, true, false, List, [], ◌∷◌, ◌++◌, take, drop, replicate, None, Some, Ok, Err, refl, sym, arith, lit<, lit≤}
-use Rattle.std.specs.Prelude.{ℤ, pos, negsuc, ◌-ℤ◌, Result, slice_set, map, All}
+use Rattle.std.proofs.Common.{◌≡◌, inl, inr, ℕ, true, false, List, [], ◌∷◌, ◌++◌, take, drop, replicate, None, Ok, Err, refl, sym, arith, lit<, lit≤}
+use Rattle.std.specs.Prelude.{ℤ, pos, negsuc, ◌-ℤ◌, slice_set, map}
 use Rattle.std.proofs.lemmas.Int.{ints}
 use Rattle.std.proofs.lemmas.List.Elements.{All-replicate, All-get_or}
 use Rattle.lib_base.specs.Sounds.{IsSample}
 use Rattle.file_model.specs.declared.flac_info.Info.{Info}
-use Rattle.file_model.specs.declared.flac_rules.FlacRule.{FlacRule}
 use Rattle.file_model.specs.declared.flac_rules.FlacRule.TheVariants.{LostSync, ReservedBlockSize, ForbiddenRate, ReservedChannels, ReservedDepth, ReservedBit, OtherCodedNumber, FrameRate, FrameChannels, FrameDepth, HeaderCheck, SubframeBit, ReservedSubframe, WastedBits, PredictorOrder, ForbiddenPrecision, NegativeShift, OtherPartitions, OutOfRange, FrameCheck, CutFrame}
 use Rattle.file_model.specs.Bits.{bits_in, bits, number}
 use Rattle.file_model.specs.Crc.{less, divided, remainder, crc8, crc16}
 use Rattle.file_model.specs.Fields.{field, signed_field, unary_at, rice_at, lead, coded_more, coded_at, align_at}
-use Rattle.file_model.specs.FlacHeader.{FlacHeader, codes_at, size_at, rate_at, header_at}
-use Rattle.file_model.specs.FlacFrame.{FlacFrame, Frame, footer_at}
+use Rattle.file_model.specs.FlacHeader.{codes_at, size_at, rate_at, header_at}
+use Rattle.file_model.specs.FlacFrame.{Frame, footer_at}
 use Rattle.file_model.specs.Outcomes.{times_at}
-use Rattle.file_model.proofs.FrameLaws.{Spells-plain}
-use Rattle.file_model.specs.Predict.{at, weighted_before, predicted, Spells}
-use Rattle.file_model.specs.Subframe.{Coded, unfolded, IsSpelledBy, Channel, subframe_head_at, wasted_at, coding_of, subframe_at, residual_at, partition_at, partitions_at, residuals_at, predictor_at, content_at}
+use Rattle.file_model.proofs.Predictions.{Spells-plain}
+use Rattle.file_model.specs.Predict.{at, weighted_before, predicted}
+use Rattle.file_model.specs.Subframe.{Coded, unfolded, IsSpelledBy, subframe_head_at, wasted_at, subframe_at, residual_at, partition_at, partitions_at, residuals_at, predictor_at, content_at}
 
 -- one channel of 16 bits
 info : Info

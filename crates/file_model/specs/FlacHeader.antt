@@ -4,7 +4,7 @@ use Rattle.std.specs.Prelude.{◌+◌, ◌-◌, ◌*◌, ◌/◌, ◌^◌, ◌==
 use Rattle.file_model.specs.declared.bits.BitFault.{BitFault}
 use Rattle.file_model.specs.declared.flac_info.Info.{Info}
 use Rattle.file_model.specs.declared.flac_rules.FlacRule.{FlacRule}
-use Rattle.file_model.specs.declared.flac_rules.FlacRule.TheVariants.{LostSync, ReservedBlockSize, ForbiddenRate, ReservedChannels, ReservedDepth, ReservedBit, OtherCodedNumber, FrameRate, FrameChannels, FrameDepth, HeaderCheck, CutFrame}
+use Rattle.file_model.specs.declared.flac_rules.FlacRule.TheVariants.{LostSync, ReservedBlockSize, ForbiddenRate, ReservedChannels, ReservedDepth, ReservedBit, FrameRate, FrameChannels, FrameDepth, HeaderCheck}
 use Rattle.file_model.specs.declared.pairs.Stereo.{Stereo}
 use Rattle.file_model.specs.declared.pairs.Stereo.TheVariants.{LeftSide, SideRight, MidSide}
 use Rattle.file_model.specs.Bits.{bits}

@@ -1,4 +1,4 @@
--- Samples taken out of bytes. No definition rests on these words.
+-- Samples taken out of bytes. Of these words only `signed` serves another definition.
 use Rattle.std.specs.Prelude.{◌+◌, ◌-◌, ◌*◌, ◌/◌, ◌^◌, ℕ, suc, ℤ, pos, negsuc, nat_lt, if◌then◌else◌, List, [], ◌∷◌, map}
 use Rattle.std.specs.Simd.{first_chunks}
 

@@ -5,7 +5,7 @@ use Rattle.bit_codec.proofs.CheckLemmas.{crc16_start, crc16_step, crc16_whole}
 use Rattle.bit_codec.proofs.checks.crc16.Goals as goal
 
 pub loop-byte-init : goal.loop-byte-init
-loop-byte-init c = crc16_start _ c.over_words-check.result c.over_words-check.ensures
+loop-byte-init c = crc16_start _ c.over_eights-check.result c.over_eights-check.ensures
 
 pub loop-byte-preserved : goal.loop-byte-preserved
 loop-byte-preserved c =

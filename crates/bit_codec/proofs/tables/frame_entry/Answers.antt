@@ -102,4 +102,4 @@ entry_at (suc (suc (suc (suc (suc (suc (suc zero))))))) byte few within = entry_
 entry_at behind byte few within = absurd (omega arith)
 
 pub returns : goal.returns
-returns c = entry_at c.args.zeros c.args.byte c.requires.few c.requires.byte
+returns c = entry_at c.args.zeros c.args.byte c.requires c.ranges.byte.fits

@@ -1,7 +1,7 @@
 -- The quotient, the one and the low bits of a window.
 use Rattle.std.proofs.Common.{refl}
 use Rattle.std.specs.Int.{w64, leading_zeros}
-use Rattle.file_model.proofs.FieldsLemmas.{gives_same}
+use Rattle.file_model.proofs.OutcomesLemmas.{gives_same}
 use Rattle.bit_codec.specs.Reader.{left}
 use Rattle.bit_codec.proofs.ReaderLemmas.{stands, low_bits, rice_answer, rice_by_parts_is}
 use Rattle.bit_codec.proofs.reader.BitReader.rice.Goals as goal

@@ -1,0 +1,4 @@
+pub mod Answers
+pub mod Headers
+pub use Rattle.bit_codec.specs.Reader
+pub use Rattle.file_model.specs.FlacHeader
