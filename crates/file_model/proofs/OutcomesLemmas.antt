@@ -15,18 +15,16 @@ HasOne {A} {E} Is = (one other : Result A E) → Is one → Is other → one ≡
 pub then_decides : {A B E : Type 0} (step : Result A E → Type 0) (next : A → Result B E → Type 0)
     → HasOne step → ((value : A) → HasOne (next value)) → HasOne (Then step next)
 then_decides {A} {B} {E} step next step_one next_one one other (inl (x, is_x, after_x)) (inl (y, is_y, after_y)) =
-    let both : Ok {E = E} x ≡ Ok y = step_one (Ok x) (Ok y) is_x is_y in
+    let both = step_one (Ok x) (Ok y) is_x is_y in
     let same : x ≡ y = cc in
     let P : A → Type 0 = λ z. next z one in
     next_one y one other (subst P same after_x) after_y
-then_decides {A} {B} {E} step next step_one next_one one other (inl (x, is_x, after_x)) (inr (fault, is_fault, is_other)) =
-    let both : Ok x ≡ Err fault = step_one (Ok x) (Err fault) is_x is_fault in absurd (let no : ⊥ = cc in no)
-then_decides {A} {B} {E} step next step_one next_one one other (inr (fault, is_fault, is_one)) (inl (y, is_y, after_y)) =
-    let both : Err fault ≡ Ok y = step_one (Err fault) (Ok y) is_fault is_y in absurd (let no : ⊥ = cc in no)
-then_decides {A} {B} {E} step next step_one next_one one other (inr (fault, is_fault, is_one)) (inr (again, is_again, is_other)) =
-    let both : Err {T = A} fault ≡ Err again = step_one (Err fault) (Err again) is_fault is_again in
-    let same : fault ≡ again = cc in
-    is_one ∙ ap (λ (f : E). Err {T = B} f) same ∙ sym is_other
+then_decides step next step_one next_one one other (inl (x, is_x, after_x)) (inr (fault, is_fault, is_other)) =
+    let both = step_one (Ok x) (Err fault) is_x is_fault in cc
+then_decides step next step_one next_one one other (inr (fault, is_fault, is_one)) (inl (y, is_y, after_y)) =
+    let both = step_one (Err fault) (Ok y) is_fault is_y in cc
+then_decides step next step_one next_one one other (inr (fault, is_fault, is_one)) (inr (again, is_again, is_other)) =
+    let both = step_one (Err fault) (Err again) is_fault is_again in cc
 
 -- a value that is found, where at most one is so
 pub finds_decides : {A B E : Type 0} (IsSo : A → Type 0) (fault : E) (next : A → Result B E)
