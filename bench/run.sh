@@ -62,7 +62,7 @@ compare "$flac" linear12 20000 4096 "$work/predict" "C"
 compare "$flac" linear32 10000 4096 "$work/predict" "C"
 compare "$flac" rice4 5000 80000 "$work/bits" "C"
 compare "$flac" rice10 10000 40000 "$work/bits" "C"
-compare "$flac" crc16 10000 65536 "$work/bits" "C"
+compare "$flac" crc16 50000 65536 "$work/bits" "C"
 
 # ---- a session of one import that nearly fills the input's limit: a wave of noise, two channels of 16 bits
 
