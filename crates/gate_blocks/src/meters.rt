@@ -3,7 +3,7 @@ ghost use Rattle.std.specs.Prelude.{◌≡◌, ◌≤◌, ◌<◌, ◌+◌, ◌*
 ghost use Rattle.gate_blocks.specs.Bounds.{AreOfChannel, IsWeighted};
 ghost use Rattle.sound_model.specs.Segments.{segments_of, square};
 
-use lib_base::Memory;
+use lib_base::{Energies, Memory};
 use std::alloc::Global;
 use std::marker::Model;
 
@@ -97,6 +97,14 @@ impl SegmentMeter {
         ensures within { AreOfChannel result.now }
     {
         self.energies.as_slice()
+    }
+
+    /// Those energies, given up with no memory taken.
+    pub fn into_energies(self) -> Energies
+        ensures energies { (xs : List ℤ) → WasFed self xs → result ≡ segments_of xs }
+        ensures within { AreOfChannel result }
+    {
+        Energies::of(self.energies)
     }
 }
 

@@ -1,2 +1,4 @@
+pub mod Jobs
 pub mod Lines
+pub mod Plans
 pub mod Totals

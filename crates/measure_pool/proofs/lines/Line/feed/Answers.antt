@@ -10,4 +10,5 @@ returns-clause-fed c = λ fed was. record {
   meter =
       let OfValues : List ℤ → Type 0 = λ values. WasFed c.feed-2.new.self values in
       subst OfValues (sym (c.feed.ensures.value fed was.filter)) (c.feed-2.ensures.fed (weighted c.args.depth fed) was.meter);
+  peak = c.fed_further-self.ensures.fed fed was.peak;
 }

@@ -3,7 +3,7 @@ use Rattle.std.specs.Prelude.{ℤ}
 use Rattle.std.proofs.Math.Seq.{take-add}
 use Rattle.lib_base.specs.Sounds.{samples_of}
 use Rattle.measure_pool.specs.Lines.{IsFed}
-use Rattle.measure_pool.proofs.segments.feed_piece.Goals as goal
+use Rattle.measure_pool.proofs.jobs.feed_piece.Goals as goal
 
 pub returns-clause-fed : goal.returns-clause-fed
 returns-clause-fed g c = λ was.

@@ -1,4 +1,0 @@
-use Rattle.measure_pool.proofs.lines.Line.new.Goals as goal
-
-pub returns-clause-fed : goal.returns-clause-fed
-returns-clause-fed c = λ depth. record { filter = c.new-2.ensures depth; meter = c.in_ok-meter.ensures.fed }
