@@ -10,7 +10,7 @@ ghost use Rattle.catalogue_core.specs.Examining.{IsFound, IsSummable, measured_o
 use album_merge::summarise;
 use gate_blocks::{blocks, windows};
 use lib_base::{Broken, Measured, Memory, Refused, Summary};
-use measure_pool::measure;
+use measure_pool::measure_alone;
 use std::alloc::Global;
 use wave_chunks::{Wave, WaveSound};
 
@@ -43,7 +43,7 @@ fn measure_wave(alloc: Global, file: &[u8], wave: &Wave) -> Result<Measured, Mem
     requires { IsReadOf file.now wave.now }
     ensures { IfOk result (λ measured. (sound : Pcm) → IsWave file.now sound → measured ≡ measured_of sound) }
 {
-    measure(alloc, &WaveSound::over(file, wave))
+    measure_alone(alloc, &WaveSound::over(file, wave))
 }
 
 /// The levels of what is measured of a sound.
