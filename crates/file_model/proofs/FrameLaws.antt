@@ -1,13 +1,12 @@
 -- Bytes have at most one outcome as a frame: one that is a frame is broken by no rule, and its
 -- samples are one.
-use Rattle.std.proofs.Common.{◌≡◌, ◌^◌, inl, inr, ℕ, List, [], ◌∷◌, Option, None, Some, refl, ap, sym, ◌∙◌, subst, arith}
-use Rattle.std.specs.Prelude.{ℤ, pos, ◌*ℤ◌, ◌-ℤ◌, map, All, Bool, Result, Ok, Err}
+use Rattle.std.proofs.Common.{◌≡◌, ◌^◌, ℕ, List, [], ◌∷◌, Option, None, Some, ap, sym, ◌∙◌}
+use Rattle.std.specs.Prelude.{ℤ, pos, ◌*ℤ◌, map, Bool}
 use Rattle.file_model.specs.declared.flac_info.Info.{Info}
 use Rattle.file_model.specs.declared.flac_rules.FlacRule.TheVariants.{OutOfRange}
 use Rattle.file_model.specs.declared.pairs.Stereo.{Stereo}
 use Rattle.file_model.specs.FlacHeader.{FlacHeader, header_at}
 use Rattle.file_model.specs.FlacFrame.{depths_of, Channels, IsPairOf, Sounding, footer_at, Body, Frame}
-use Rattle.file_model.specs.Outcomes.{Is, Then, Finds}
 use Rattle.file_model.specs.Subframe.{Coded, subframe_at, IsSpelledBy, Channel}
 use Rattle.file_model.proofs.OutcomesLemmas.{HoldsOnce, is_decides, then_decides, finds_decides}
 use Rattle.file_model.proofs.Predictions.{Spells_unique}

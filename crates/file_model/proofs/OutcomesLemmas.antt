@@ -1,5 +1,5 @@
 -- Lemmas on outcomes.
-use Rattle.std.proofs.Common.{◌≡◌, ◌⊎◌, inl, inr, Result, Ok, Err, ap, sym, ◌∙◌, subst}
+use Rattle.std.proofs.Common.{◌≡◌, inl, inr, Result, Ok, Err, ap, sym, ◌∙◌, subst}
 use Rattle.file_model.specs.Outcomes.{Gives, Is, Then, Finds}
 
 -- what is read by one function is read by another one that is the same

@@ -53,11 +53,7 @@ pub fn read_header(bytes: &[u8], at: usize, info: &Info) -> Result<Header, Broke
 }
 
 /// The header of the frame that begins at a place.
-#[tactic(
-    auto,
-    using(crate::proofs::Wholes::coded_whole),
-    unfolding(file_model::specs::FlacHeader::header_at)
-)]
+#[tactic(auto, using(crate::proofs::Wholes::coded_whole), unfolding(file_model::specs::FlacHeader::header_at))]
 fn header_at(bytes: &[u8], at: usize, info: &Info) -> Result<Header, FlacRule>
     requires { at ≤ length bytes.now }
     ensures { Gives header_of result (header_at info.now (drop at bytes.now)) }
@@ -68,8 +64,14 @@ fn header_at(bytes: &[u8], at: usize, info: &Info) -> Result<Header, FlacRule>
     let block = read_block_size(&mut reader, codes.size)?;
     let rate = read_rate(&mut reader, codes.rate, info.rate)?;
     holds(rate == info.rate, FlacRule::FrameRate)?;
-    holds(channels_of(codes.channels) == info.channels, FlacRule::FrameChannels)?;
-    holds(depth_of(codes.depth, info.depth) == info.depth, FlacRule::FrameDepth)?;
+    holds(
+        channels_of(codes.channels) == info.channels,
+        FlacRule::FrameChannels,
+    )?;
+    holds(
+        depth_of(codes.depth, info.depth) == info.depth,
+        FlacRule::FrameDepth,
+    )?;
     let end = end_of(&reader, bytes, at);
     let check = reader.take(8)?;
     holds(check == check_over(bytes, at, end), FlacRule::HeaderCheck)?;
@@ -102,11 +104,7 @@ fn check_over(bytes: &[u8], from: usize, to: usize) -> u32
 }
 
 /// Reads the sync code, the strategy and the codes.
-#[tactic(
-    auto,
-    using(crate::proofs::Wholes::field_shorter),
-    unfolding(file_model::specs::FlacHeader::codes_at)
-)]
+#[tactic(auto, using(crate::proofs::Wholes::field_shorter), unfolding(file_model::specs::FlacHeader::codes_at))]
 fn read_codes(reader: &mut BitReader) -> Result<Codes, FlacRule>
     ensures gives { Gives (λ codes. (codes_of codes, left reader.new)) result (codes_at (left reader.old)) }
     ensures bytes { OnOk result (TakesBytes (left reader.old) (left reader.new)) }
@@ -137,11 +135,7 @@ fn read_codes(reader: &mut BitReader) -> Result<Codes, FlacRule>
 }
 
 /// The samples of each channel, which may stand behind the coded number.
-#[tactic(
-    auto,
-    using(crate::proofs::Wholes::field_shorter),
-    unfolding(file_model::specs::FlacHeader::size_at)
-)]
+#[tactic(auto, using(crate::proofs::Wholes::field_shorter), unfolding(file_model::specs::FlacHeader::size_at))]
 fn read_block_size(reader: &mut BitReader, code: u32) -> Result<u32, FlacRule>
     requires some { 1 ≤ code }
     requires small { code < 16 }
@@ -159,11 +153,7 @@ fn read_block_size(reader: &mut BitReader, code: u32) -> Result<u32, FlacRule>
 }
 
 /// The frames a second, which may be the file's or stand behind the block size.
-#[tactic(
-    auto,
-    using(crate::proofs::Wholes::field_shorter),
-    unfolding(file_model::specs::FlacHeader::rate_at)
-)]
+#[tactic(auto, using(crate::proofs::Wholes::field_shorter), unfolding(file_model::specs::FlacHeader::rate_at))]
 fn read_rate(reader: &mut BitReader, code: u32, own: u32) -> Result<u32, FlacRule>
     requires { code < 15 }
     ensures gives { Gives (λ rate. (rate, left reader.new)) result (rate_at own code (left reader.old)) }

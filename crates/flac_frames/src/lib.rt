@@ -7,6 +7,8 @@
 
 mod header;
 mod rules;
+#[cfg(test)]
+mod tests;
 
 pub use file_model::{Info, Stereo};
 pub use header::{Header, read_header};

@@ -18,8 +18,8 @@ pub returns : goal.returns
 unfolding header_at
 returns c =
     let whole : TakesBytes (bits (drop c.args.at c.args.bytes.now)) (left c.read_rate.new.reader) =
-        four_whole _ _ _ _ _ _ c.at-reader.ensures.gives c.in_ok-codes.ensures.bytes (coded_whole _ _ c.in_ok-coded_number.ensures.gives)
-        c.in_ok-block.ensures.bytes c.in_ok-rate.ensures.bytes in
+    four_whole _ _ _ _ _ _ c.at-reader.ensures.gives c.in_ok-codes.ensures.bytes (coded_whole _ _ c.in_ok-coded_number.ensures.gives)
+    c.in_ok-block.ensures.bytes c.in_ok-rate.ensures.bytes in
     let more = byte_more (drop c.args.at c.args.bytes.now) c.in_ok-check.check (left c.read_rate.new.reader) (left c.take.new.self) whole c.in_ok-check.ensures.gives in
     let before = c.end_of-end.ensures.before in
     let long : c.end_of-end.result + 1 - c.args.at ≡ bytes_before (drop c.args.at c.args.bytes.now) (left c.take.new.self) = omega (arith, more, before) in
