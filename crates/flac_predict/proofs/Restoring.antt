@@ -7,7 +7,7 @@ use Rattle.std.proofs.lemmas.List.Elements.{All-get_or, All-from_get_or}
 use Rattle.std.proofs.Math.Pow.{pow_mono}
 use Rattle.lib_base.specs.Sounds.{IsSample}
 use Rattle.file_model.specs.Predict.{at, predicted, Spells, Leaves}
-use Rattle.file_model.proofs.Predictions.{SameBefore, same_taken, predicted-same, Spells-push}
+use Rattle.file_model.proofs.Predictions.{same_taken, predicted-same, Spells-push}
 
 -- two lists have the same numbers from a place on
 abbrev pub SameFrom : List ℤ → List ℤ → ℕ → Type 0

@@ -1,5 +1,5 @@
 //! The left and right channel from two that are coded as a pair.
-ghost use Rattle.std.specs.Prelude.{◌≡◌, ◌≤◌, ◌<◌, ◌+◌, ◌-◌, ◌^◌, ℕ, ℤ, pos, ◌+ℤ◌, ◌-ℤ◌, List, length, All, unsigned_abs, MatchOption, OnOk, IfErr, OnErr};
+ghost use Rattle.std.specs.Prelude.{◌≡◌, ◌≤◌, ◌^◌, ℤ, pos, ◌+ℤ◌, ◌-ℤ◌, List, length, All, unsigned_abs, MatchOption, OnOk, IfErr, OnErr};
 ghost use Rattle.std.specs.Int.{int_div_euclid};
 ghost use Rattle.lib_base.specs.Sounds.{IsSample};
 ghost use Rattle.file_model.specs.Pairs.{first_depth, second_depth, IsPair, SpellsPair, IsPairOutside, LeavesPair};

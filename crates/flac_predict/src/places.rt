@@ -1,5 +1,5 @@
 //! Places at which a sample leaves its depth.
-ghost use Rattle.std.specs.Prelude.{◌≡◌, ◌≤◌, ◌<◌, ◌^◌, ◌-◌, pos, SomeIff};
+ghost use Rattle.std.specs.Prelude.{◌≤◌, SomeIff};
 ghost use Rattle.lib_base.specs.Sounds.{IsSample};
 
 /// The sample that would be restored at this place is not within the depth.

@@ -1,7 +1,7 @@
 //! Samples from their residuals.
-ghost use Rattle.std.specs.Prelude.{◌≡◌, ◌≤◌, ◌<◌, ◌+◌, ◌-◌, ◌*◌, ◌^◌, ℕ, ℤ, pos, ◌+ℤ◌, ◌-ℤ◌, ◌*ℤ◌, List, length, take, All, unsigned_abs, OnOk, IfErr, OnErr};
+ghost use Rattle.std.specs.Prelude.{◌≡◌, ◌≤◌, ◌^◌, ℤ, pos, ◌+ℤ◌, ◌-ℤ◌, ◌*ℤ◌, List, length, take, All, unsigned_abs, OnOk, IfErr, OnErr};
 ghost use Rattle.lib_base.specs.Sounds.{IsSample};
-ghost use Rattle.file_model.specs.Predict.{fixed_weights, predicted, weighted_before, Spells, Leaves};
+ghost use Rattle.file_model.specs.Predict.{fixed_weights, predicted, Spells, Leaves};
 
 use crate::places::{OutOfDepth, sample_of};
 

@@ -1,4 +1,4 @@
-use Rattle.std.proofs.Common.{◌≡◌, ◌≤◌, ◌-◌, ◌*◌, ◌^◌, ◌∙◌, ◌+ℤ◌, ◌*ℤ◌, ℕ, ℤ, pos, List, length, take, get_or, ap, sym, rules, arith, unsigned_abs, w64, w32, FitsSigned, to_z}
+use Rattle.std.proofs.Common.{◌≡◌, ◌≤◌, ◌-◌, ◌^◌, ◌∙◌, ◌+ℤ◌, ◌*ℤ◌, ℕ, ℤ, pos, List, length, take, get_or, ap, sym, rules, arith, unsigned_abs, w64, w32, FitsSigned, to_z}
 use Rattle.std.proofs.lemmas.Int.{to_z-of_z, ints}
 use Rattle.std.proofs.lemmas.List.{take_all}
 use Rattle.file_model.specs.Predict.{weighted_before}

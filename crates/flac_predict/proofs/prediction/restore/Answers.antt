@@ -1,4 +1,4 @@
-use Rattle.std.proofs.Common.{◌≡◌, ◌∙◌, ◌+ℤ◌, ℤ, pos, get_or, refl, ap, sym, subst, rules, arith, w32, w64, FitsSigned}
+use Rattle.std.proofs.Common.{◌∙◌, ◌+ℤ◌, ℤ, pos, get_or, refl, ap, sym, subst, rules, arith, w32, w64, FitsSigned}
 use Rattle.std.proofs.lemmas.Int.{to_z-of_z}
 use Rattle.lib_base.specs.Sounds.{IsSample}
 use Rattle.file_model.specs.Predict.{Spells, Leaves}

@@ -1,7 +1,7 @@
-use Rattle.std.proofs.Common.{◌≡◌, ◌∙◌, ◌+ℤ◌, ℤ, pos, get_or, refl, ap, sym, subst, rules, arith, w32, w64, FitsSigned, to_z}
+use Rattle.std.proofs.Common.{◌∙◌, ◌+ℤ◌, ℤ, pos, get_or, refl, ap, sym, subst, rules, arith, w32, w64, FitsSigned, to_z}
 use Rattle.std.proofs.lemmas.Int.{to_z-of_z}
 use Rattle.lib_base.specs.Sounds.{IsSample}
-use Rattle.file_model.specs.Predict.{fixed_weights, Spells, Leaves, predicted}
+use Rattle.file_model.specs.Predict.{fixed_weights, Spells, Leaves}
 use Rattle.file_model.proofs.Predictions.{Spells-warm_up, Spells_unique, Leaves_none}
 use Rattle.flac_predict.proofs.Restoring.{Restored-more, Restored-whole, Leaves-here, last_set, before_set}
 use Rattle.flac_predict.proofs.Weighing.{straight_predicted}
