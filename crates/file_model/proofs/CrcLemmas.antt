@@ -1,11 +1,11 @@
 -- Lemmas on remainders of polynomials.
-use Rattle.std.proofs.Common.{◌≡◌, ◌≤◌, ◌<◌, ◌+◌, ◌-◌, ◌*◌, ◌/◌, ◌%◌, ◌^◌, ℕ, zero, suc, Bool, true, false, not, List, [], ◌∷◌, ◌++◌, length, take, drop, replicate, zero-add, length-append, length-take, length-drop, append_assoc, refl, sym, ap, ◌∙◌, subst, arith}
+use Rattle.std.proofs.Common.{◌≡◌, ◌≤◌, ◌<◌, ◌+◌, ◌-◌, ◌*◌, ◌^◌, ℕ, zero, suc, Bool, true, false, not, List, [], ◌∷◌, ◌++◌, length, take, drop, replicate, zero-add, length-append, append_assoc, refl, sym, ap, ◌∙◌, arith}
 use Rattle.std.specs.Int.Bits.{bit_xor}
-use Rattle.std.proofs.lemmas.List.{append-nil, length-replicate, replicate-append-replicate, take-append-drop, length-take-le}
+use Rattle.std.proofs.lemmas.List.{length-replicate, replicate-append-replicate, take-append-drop, length-take-le}
 use Rattle.std.proofs.lemmas.Nat.{xor_block}
-use Rattle.file_model.specs.Bits.{bits_in, bits, number}
+use Rattle.file_model.specs.Bits.{bits, number}
 use Rattle.file_model.specs.Crc.{less, divided, remainder}
-use Rattle.file_model.proofs.BitsLemmas.{number-append, number-below}
+use Rattle.file_model.proofs.BitsLemmas.{number-below}
 
 -- ---- polynomials of as many coefficients
 

@@ -1,5 +1,5 @@
 -- Lemmas on outcomes.
-use Rattle.std.proofs.Common.{◌≡◌, Result, Ok, Err, sym, ◌∙◌, ap, subst, inl, inr, ◌⊎◌}
+use Rattle.std.proofs.Common.{◌≡◌, Result, Ok, Err, sym, ◌∙◌, ap, subst, inl, inr}
 use Rattle.file_model.specs.Outcomes.{Gives, Then, Finds}
 
 -- what is read by one function is read by another one that is the same

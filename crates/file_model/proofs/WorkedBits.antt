@@ -1,5 +1,5 @@
 -- Worked bits, fields and checks.
-use Rattle.std.proofs.Common.{◌≡◌, ℕ, suc, Bool, true, false, List, [], ◌∷◌, ◌++◌, replicate, Ok, Err, refl}
+use Rattle.std.proofs.Common.{◌≡◌, true, false, [], ◌∷◌, ◌++◌, Ok, Err, refl}
 use Rattle.std.specs.Prelude.{pos, negsuc}
 use Rattle.file_model.specs.declared.bits.BitFault.TheVariants.{Cut, BadNumber}
 use Rattle.file_model.specs.Bits.{bits_in, bits, number}
