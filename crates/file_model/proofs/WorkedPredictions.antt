@@ -1,11 +1,11 @@
 -- Worked predictions, spelled samples and pairs.
-use Rattle.std.proofs.Common.{◌≡◌, ◌≤◌, ◌<◌, lit≤, ℕ, List, [], ◌∷◌, refl, lit<, below_more, arith}
+use Rattle.std.proofs.Common.{◌≡◌, ◌≤◌, ◌<◌, lit≤, ℕ, zero, suc, List, [], ◌∷◌, refl, lit<, below_more, arith}
 use Rattle.std.specs.Prelude.{ℤ, pos, negsuc, ◌-ℤ◌, All}
 use Rattle.std.proofs.lemmas.Int.{ints}
 use Rattle.std.proofs.lemmas.List.Elements.{All-from_recursion}
 use Rattle.lib_base.specs.Sounds.{IsSample}
 use Rattle.file_model.specs.Predict.{at, fixed_weights, weighted_before, predicted, Spells, Leaves}
-use Rattle.file_model.specs.Pairs.{IsPair, SpellsPair}
+use Rattle.file_model.specs.Pairs.{IsPair, SpellsPair, LeavesPair}
 use Rattle.file_model.specs.declared.pairs.Stereo.TheVariants.{LeftSide, SideRight, MidSide}
 
 -- the fixed predictor of order 2 goes on in a straight line
