@@ -9,8 +9,8 @@ use std::alloc::{AllocError, Global};
 /// How many bytes a round has.
 const BYTES: usize = 65_536;
 
-/// Reads Rice values from noise so many times. Half of the values have a quotient of 0, a quarter one
-/// of 1, and so on.
+/// Reads Rice values from noise so many times. Half of the values have a quotient of 0, a quarter
+/// one of 1, and so on.
 pub fn rice(alloc: Global, low: u32, values: u32, rounds: u32) -> Result<u64>
     requires { low ≤ 30 }
 {

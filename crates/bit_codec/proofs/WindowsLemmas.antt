@@ -1,17 +1,16 @@
 -- Lemmas on windows.
-use Rattle.std.proofs.Common.{◌≡◌, ◌≤◌, ◌<◌, ◌+◌, ◌-◌, ◌*◌, ◌/◌, ◌%◌, ◌^◌, ℕ, zero, suc, min, Bool, true, false, cond, List, [], ◌∷◌, ◌++◌, length, take, drop, Result, Ok, Err, length-drop, refl, sym, ap, ◌∙◌, subst, inl, inr, ◌⊎◌, arith}
+use Rattle.std.proofs.Common.{◌≡◌, ◌≤◌, ◌<◌, ◌+◌, ◌-◌, ◌*◌, ◌/◌, ◌%◌, ◌^◌, ℕ, zero, suc, Bool, List, ◌++◌, length, take, drop, Ok, length-drop, refl, sym, ap, ◌∙◌, subst, inl, inr, ◌⊎◌, arith}
 use Rattle.std.specs.Int.{w64, leading_zeros}
 use Rattle.std.proofs.lemmas.Bool.{cases_lt}
-use Rattle.std.proofs.lemmas.List.{take-append-drop, drop-drop, drop-take, take-take, drop-append-le, take_at, drop_at, length-take-le}
+use Rattle.std.proofs.lemmas.List.{take-append-drop, drop-drop, drop-take, take-take, drop-append-le, length-take-le}
 use Rattle.std.proofs.lemmas.Nat.{pow_pos, pow-add, shr-shr, shl-shr, mod-pow-add, leading_length}
 use Rattle.std.proofs.Math.Nat.{two-pow-succ, pow-le-pow_right, lt_of_mul-lt-mul_right, le_of_mul-le-mul_right, mul-lt-mul_of_pos_right, mul-mod_left, div-eq_of_lt-le}
 use Rattle.std.proofs.Math.Seq.{take-add}
-use Rattle.file_model.specs.declared.bits.BitFault.{BitFault}
-use Rattle.file_model.specs.Bits.{bits_in, bits, number}
-use Rattle.file_model.specs.Fields.{field, unary_at, rice_at, held}
+use Rattle.file_model.specs.Bits.{bits, number}
+use Rattle.file_model.specs.Fields.{unary_at}
 use Rattle.file_model.proofs.BitsLemmas.{number-append, number-below, number-take, number-drop, length-bits, bits-take, bits-drop}
-use Rattle.file_model.proofs.FieldsLemmas.{behind, unary_zeros, unary_one, rice_from, held_under}
-use Rattle.bit_codec.specs.Windows.{IsWindow, held_behind}
+use Rattle.file_model.proofs.FieldsLemmas.{behind, unary_zeros, unary_one}
+use Rattle.bit_codec.specs.Windows.{IsWindow}
 
 -- a number shifted up by the bits above the window falls off at its top
 shifted : (word fewer : ℕ) → fewer < 8 → word * 2 ^ fewer % 2 ^ 64 ≡ word % 2 ^ (64 - fewer) * 2 ^ fewer

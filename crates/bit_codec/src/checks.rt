@@ -4,8 +4,8 @@ ghost use Rattle.file_model.specs.Crc.{crc8, crc16};
 
 use crate::tables::{frame_entry, header_entry};
 
-/// The check of eight bits over a frame's header, whose bytes these are: the remainder of their bits
-/// by x^8 + x^2 + x + 1.
+/// The check of eight bits over a frame's header, whose bytes these are: the remainder of their
+/// bits by x^8 + x^2 + x + 1.
 pub fn crc8(bytes: &[u8]) -> u8
     ensures { result ≡ crc8 bytes.now }
 {
@@ -50,12 +50,13 @@ fn after_byte(check: u16, byte: u8) -> u16
     frame_entry(0, place) ^ (check % 256 * 256)
 }
 
-/// The check after the first eight of more bytes: over each one, with zeros in place of those behind
-/// it.
+/// The check after the first eight of more bytes: over each one, with zeros in place of those
+/// behind it.
 #[inline(always)]
 fn after_eight(check: u16, next: &[u8]) -> u16
     requires { 8 ≤ length next.now }
-    ensures { (before : List ℕ) → check ≡ crc16 before → result ≡ crc16 (before ++ take 8 next.now) }
+    ensures { (before : List ℕ) → check ≡ crc16 before
+        → result ≡ crc16 (before ++ take 8 next.now) }
 {
     // these need not wait for the check so far, which goes with the first two bytes
     let back = frame_entry(5, next[2])

@@ -21,11 +21,11 @@ pub struct BitReader<'a> {
     ghost in_bytes: { 8 * byte + bit ≤ 8 * length bytes.now },
 }
 
+#[tactic(auto, unfolding(crate::specs::Reader::source, crate::specs::Reader::place, crate::specs::Reader::left))]
 impl<'a> BitReader<'a> {
     ghost use Rattle.bit_codec.specs.Reader.{source, place, left};
 
     /// A reader that stands at the start of a byte, or at the end of the bytes.
-    #[tactic(auto, unfolding(crate::specs::Reader::source, crate::specs::Reader::place, crate::specs::Reader::left))]
     pub fn at(bytes: &'a [u8], byte: usize) -> BitReader<'a>
         requires { byte ≤ length bytes.now }
         ensures gives { left result ≡ bits (drop byte bytes.now) }
@@ -39,9 +39,8 @@ impl<'a> BitReader<'a> {
         }
     }
 
-    /// The number of whole bytes from the start of the bytes to where the reader stands, which is at
-    /// a whole byte.
-    #[tactic(auto, unfolding(crate::specs::Reader::source, crate::specs::Reader::place, crate::specs::Reader::left))]
+    /// The number of whole bytes from the start of the bytes to where the reader stands, which is
+    /// at a whole byte.
     pub fn byte(&self) -> usize
         requires { place self.now % 8 ≡ 0 }
         ensures place { 8 * result ≡ place self.now }
@@ -50,12 +49,17 @@ impl<'a> BitReader<'a> {
     {
         self.byte
     }
+}
+
+impl BitReader<'_> {
+    ghost use Rattle.bit_codec.specs.Reader.{source, place, left};
 
     /// The number in the next `count` bits.
     #[inline]
     pub fn take(&mut self, count: u32) -> Result<u32, BitFault>
         requires { count ≤ 32 }
-        ensures gives { Gives (λ value. (value, left self.new)) result (field count (left self.old)) }
+        ensures gives { Gives (λ value. (value, left self.new)) result
+            (field count (left self.old)) }
         ensures small { IfOk result (λ value. value < 2 ^ count) }
         ensures whole { source self.new ≡ source self.old }
         ensures moved { place self.new + length (left self.new) ≡ 8 * length (source self.new) }
@@ -75,7 +79,8 @@ impl<'a> BitReader<'a> {
     #[tactic(auto, unfolding(file_model::specs::Fields::signed_field))]
     pub fn signed(&mut self, count: u32) -> Result<i32, BitFault>
         requires { count ≤ 32 }
-        ensures gives { Gives (λ value. (value, left self.new)) result (signed_field count (left self.old)) }
+        ensures gives { Gives (λ value. (value, left self.new)) result
+            (signed_field count (left self.old)) }
         ensures whole { source self.new ≡ source self.old }
         ensures moved { place self.new + length (left self.new) ≡ 8 * length (source self.new) }
         ensures kept { OnErr result (left self.new ≡ left self.old) }
@@ -84,10 +89,11 @@ impl<'a> BitReader<'a> {
         Ok(with_sign(value, count))
     }
 
-    /// How many zeros stand before the next one, which is read too. The count is held to the greatest
-    /// u64.
+    /// How many zeros stand before the next one, which is read too. The count is held to the
+    /// greatest u64.
     pub fn unary(&mut self) -> Result<u64, BitFault>
-        ensures gives { Gives (λ value. (value, left self.new)) result (held (unary_at (left self.old))) }
+        ensures gives { Gives (λ value. (value, left self.new)) result
+            (held (unary_at (left self.old))) }
         ensures whole { source self.new ≡ source self.old }
         ensures moved { place self.new + length (left self.new) ≡ 8 * length (source self.new) }
         ensures kept { OnErr result (left self.new ≡ left self.old) }
@@ -103,7 +109,8 @@ impl<'a> BitReader<'a> {
     #[inline]
     pub fn rice(&mut self, low: u32) -> Result<u64, BitFault>
         requires { low ≤ 30 }
-        ensures gives { Gives (λ value. (value, left self.new)) result (held (rice_at low (left self.old))) }
+        ensures gives { Gives (λ value. (value, left self.new)) result
+            (held (rice_at low (left self.old))) }
         ensures whole { source self.new ≡ source self.old }
         ensures moved { place self.new + length (left self.new) ≡ 8 * length (source self.new) }
         ensures kept { OnErr result (left self.new ≡ left self.old) }
@@ -147,13 +154,13 @@ impl<'a> BitReader<'a> {
     }
 }
 
-/// How the fields are read: by a window of eight bytes where so many are there, else bit by bit.
+/// A window of eight bytes, and single bits.
+#[tactic(auto, unfolding(crate::specs::Reader::source, crate::specs::Reader::place, crate::specs::Reader::left))]
 impl BitReader<'_> {
     ghost use Rattle.bit_codec.specs.Reader.{source, place, left};
 
     /// The next bits on top of a window, where eight bytes are there.
     #[inline(always)]
-    #[tactic(auto, unfolding(crate::specs::Reader::source, crate::specs::Reader::place, crate::specs::Reader::left))]
     fn window(&self) -> Option<u64>
         ensures { IfSome result (IsWindow (left self.now) self.now.bit) }
     {
@@ -166,7 +173,6 @@ impl BitReader<'_> {
 
     /// Goes past so many bits.
     #[inline(always)]
-    #[tactic(auto, unfolding(crate::specs::Reader::source, crate::specs::Reader::place, crate::specs::Reader::left))]
     fn skip(&mut self, count: u32)
         requires few { count ≤ 64 }
         requires there { count ≤ length (left self.old) }
@@ -182,9 +188,9 @@ impl BitReader<'_> {
     }
 
     /// The next bit.
-    #[tactic(auto, unfolding(crate::specs::Reader::source, crate::specs::Reader::place, crate::specs::Reader::left))]
     fn next_bit(&mut self) -> Option<bool>
-        ensures gives { MatchOption result (left self.old ≡ []) (λ bit. left self.old ≡ bit ∷ left self.new) }
+        ensures gives { MatchOption result (left self.old ≡ [])
+            (λ bit. left self.old ≡ bit ∷ left self.new) }
         ensures whole { source self.new ≡ source self.old }
     {
         if self.bytes.len() <= self.byte {
@@ -194,11 +200,17 @@ impl BitReader<'_> {
         self.skip(1);
         Some(bit)
     }
+}
+
+/// How fields are read: by a window of eight bytes where so many are there, else bit by bit.
+impl BitReader<'_> {
+    ghost use Rattle.bit_codec.specs.Reader.{source, place, left};
 
     #[cold]
     fn take_bit_by_bit(&mut self, count: u32) -> Result<u32, BitFault>
         requires { count ≤ 32 }
-        ensures gives { Gives (λ value. (value, left self.new)) result (field count (left self.old)) }
+        ensures gives { Gives (λ value. (value, left self.new)) result
+            (field count (left self.old)) }
         ensures whole { source self.new ≡ source self.old }
         ensures kept { OnErr result (left self.new ≡ left self.old) }
     {
@@ -216,7 +228,8 @@ impl BitReader<'_> {
 
     /// Goes past whole windows of zeros, and tells how many zeros these were.
     fn pass_zeros(&mut self) -> u64
-        ensures goes { held_behind result (unary_at (left self.new)) ≡ held (unary_at (left self.old)) }
+        ensures goes { held_behind result (unary_at (left self.new))
+            ≡ held (unary_at (left self.old)) }
         ensures whole { source self.new ≡ source self.old }
     {
         let mut zeros = 0u64;
@@ -230,7 +243,8 @@ impl BitReader<'_> {
 
     /// A unary count, of which so many zeros were read.
     fn unary_behind(&mut self, zeros: u64) -> Result<u64, BitFault>
-        ensures gives { Gives (λ value. (value, left self.new)) result (held_behind zeros (unary_at (left self.old))) }
+        ensures gives { Gives (λ value. (value, left self.new)) result
+            (held_behind zeros (unary_at (left self.old))) }
         ensures whole { source self.new ≡ source self.old }
     {
         match self.window() {
@@ -245,7 +259,8 @@ impl BitReader<'_> {
 
     #[cold]
     fn unary_bit_by_bit(&mut self, zeros: u64) -> Result<u64, BitFault>
-        ensures gives { Gives (λ value. (value, left self.new)) result (held_behind zeros (unary_at (left self.old))) }
+        ensures gives { Gives (λ value. (value, left self.new)) result
+            (held_behind zeros (unary_at (left self.old))) }
         ensures whole { source self.new ≡ source self.old }
     {
         let mut count = zeros;
@@ -263,7 +278,8 @@ impl BitReader<'_> {
     #[tactic(auto, unfolding(crate::specs::Windows::rice_by_parts))]
     fn long_rice(&mut self, low: u32) -> Result<u64, BitFault>
         requires { low ≤ 30 }
-        ensures gives { Gives (λ value. (value, left self.new)) result (rice_by_parts low (left self.old)) }
+        ensures gives { Gives (λ value. (value, left self.new)) result
+            (rice_by_parts low (left self.old)) }
         ensures whole { source self.new ≡ source self.old }
         ensures kept { OnErr result (left self.new ≡ left self.old) }
     {
@@ -289,7 +305,8 @@ impl BitReader<'_> {
     fn coded_rest(&mut self, count: u32, high: u64) -> Result<u64, BitFault>
         requires few { count ≤ 6 }
         requires small { high < 128 }
-        ensures gives { Gives (λ value. (value, left self.new)) result (coded_more count high (left self.old)) }
+        ensures gives { Gives (λ value. (value, left self.new)) result
+            (coded_more count high (left self.old)) }
         ensures whole { source self.new ≡ source self.old }
     {
         let mut value = high;

@@ -40,7 +40,8 @@ pub(crate) fn with_sign(value: u32, count: u32) -> i32
     }
 }
 
-/// The Rice value on top of a window that has its unary quotient, the one behind it and its low bits.
+/// The Rice value on top of a window that has its unary quotient, the one behind it and its low
+/// bits.
 #[inline(always)]
 pub(crate) fn rice_value(window: u64, quotient: u32, low: u32) -> u64
     requires few { low ≤ 30 }

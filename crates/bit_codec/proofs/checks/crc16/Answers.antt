@@ -1,4 +1,4 @@
-use Rattle.std.proofs.Common.{◌≡◌, ◌++◌, ◌*◌, ◌/◌, ℕ, List, length, take, ap, ◌∙◌, arith}
+use Rattle.std.proofs.Common.{◌++◌, ◌*◌, ◌/◌, ℕ, List, length, take, ap, ◌∙◌, arith}
 use Rattle.std.proofs.lemmas.List.{take_all}
 use Rattle.file_model.specs.Crc.{crc16}
 use Rattle.bit_codec.proofs.CheckLemmas.{crc16_start, crc16_step, crc16_whole}

@@ -1,4 +1,4 @@
-use Rattle.std.proofs.Common.{get_or, arith}
+use Rattle.std.proofs.Common.{arith}
 use Rattle.bit_codec.proofs.CheckLemmas.{crc8_none, crc8_step}
 use Rattle.bit_codec.proofs.checks.crc8.Goals as goal
 

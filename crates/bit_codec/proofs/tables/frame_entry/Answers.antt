@@ -1,8 +1,8 @@
 -- The stored tables: that of the bytes, and for each more byte of zeros one that follows from the table before it.
-use Rattle.std.proofs.Common.{◌≡◌, ◌<◌, ◌+◌, ◌*◌, ◌/◌, ◌%◌, ℕ, zero, suc, Bool, false, List, [], ◌++◌, length, replicate, map, get_or, refl, ap, sym, ◌∙◌, zero-add, append_assoc, arith}
-use Rattle.std.specs.Int.Bits.{bit_xor, xor_zero_r}
+use Rattle.std.proofs.Common.{◌≡◌, ◌<◌, ◌+◌, ◌*◌, ◌/◌, ◌%◌, ℕ, zero, suc, Bool, List, [], length, map, get_or, refl, ap, sym, ◌∙◌, zero-add, arith}
+use Rattle.std.specs.Int.Bits.{bit_xor}
 use Rattle.std.specs.List.{range_with_len}
-use Rattle.std.proofs.lemmas.List.{append-nil, get_or-map, replicate-append-replicate}
+use Rattle.std.proofs.lemmas.List.{append-nil, get_or-map}
 use Rattle.std.proofs.lemmas.List.FromFn.{get_or-map-range_with_len}
 use Rattle.file_model.specs.Bits.{bits_in, number}
 use Rattle.file_model.specs.Crc.{less, divided, remainder, frame_divisor}

@@ -1,6 +1,5 @@
 -- The quotient has room above the low bits, so nothing of it is lost.
-use Rattle.std.proofs.Common.{◌≡◌, ◌<◌, ◌+◌, ◌*◌, ◌%◌, ◌^◌, arith}
-use Rattle.std.proofs.lemmas.Bool.{leb-true, ltb-true, ltb-false}
+use Rattle.std.proofs.Common.{arith}
 use Rattle.bit_codec.proofs.ReaderLemmas.{joined_below}
 use Rattle.bit_codec.proofs.windows.joined.Goals as goal
 

@@ -1,7 +1,6 @@
 -- As many bits are left up to a whole byte.
-use Rattle.std.proofs.Common.{◌-◌, ◌%◌, length, arith}
+use Rattle.std.proofs.Common.{◌-◌, ◌%◌, length}
 use Rattle.bit_codec.specs.Reader.{source, place, left}
-use Rattle.file_model.specs.declared.bits.BitFault.TheVariants.{Cut}
 use Rattle.bit_codec.proofs.ReaderLemmas.{padding_is, align_answer, align_place, align_there}
 use Rattle.bit_codec.proofs.reader.BitReader.align.Goals as goal
 

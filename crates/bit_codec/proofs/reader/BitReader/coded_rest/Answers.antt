@@ -1,5 +1,5 @@
 -- One byte more of a coded number.
-use Rattle.std.proofs.Common.{◌+◌, ◌-◌, ◌*◌, ◌%◌, ◌≡◌, ◌<◌, ℕ, suc, ap, sym, ◌∙◌, arith}
+use Rattle.std.proofs.Common.{◌+◌, ◌-◌, ◌*◌, ℕ, ap, sym, ◌∙◌, arith}
 use Rattle.file_model.specs.Fields.{coded_more}
 use Rattle.bit_codec.specs.Reader.{left}
 use Rattle.bit_codec.proofs.ReaderLemmas.{coded_step, coded_fits, coded_small}

@@ -1,6 +1,5 @@
 -- The highest bits of a window are the next ones.
-use Rattle.std.proofs.Common.{◌≡◌, ◌<◌, ◌^◌, ℕ, List, Bool, Ok, arith}
-use Rattle.file_model.specs.Fields.{field}
+use Rattle.std.proofs.Common.{arith}
 use Rattle.file_model.proofs.FieldsLemmas.{field_below, field_small}
 use Rattle.bit_codec.specs.Reader.{left}
 use Rattle.bit_codec.proofs.ReaderLemmas.{stands, take_in_window, field_fits}

@@ -1,5 +1,5 @@
 -- One bit more, or none.
-use Rattle.std.proofs.Common.{ℕ, Bool, List, Ok, refl, ap, ◌∙◌, arith}
+use Rattle.std.proofs.Common.{Bool, List, Ok, refl, ap, ◌∙◌, arith}
 use Rattle.bit_codec.specs.Reader.{left}
 use Rattle.file_model.proofs.FieldsLemmas.{field_none, field_ends}
 use Rattle.bit_codec.proofs.ReaderLemmas.{field_fits_again, field_step, bit_below}

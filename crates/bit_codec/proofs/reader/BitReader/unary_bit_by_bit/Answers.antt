@@ -1,5 +1,5 @@
 -- A zero more, the one, or no bit.
-use Rattle.std.proofs.Common.{ℕ, Bool, List, ◌∷◌, ap, sym, ◌∙◌, arith}
+use Rattle.std.proofs.Common.{ℕ, Bool, ◌∷◌, ap, sym, ◌∙◌, arith}
 use Rattle.file_model.specs.Fields.{unary_at}
 use Rattle.bit_codec.specs.Windows.{held_behind}
 use Rattle.bit_codec.specs.Reader.{left}
