@@ -54,7 +54,8 @@ impl<W: Write> StdSink<W> {
 impl<W: Write> Sink for StdSink<W> {
     ghost shown = { λ s. record { written = W.contents s.writer; faults = s.faults } };
 
-    /// Writes once to the writer. A write that takes nothing of a piece that isn't empty is a fault.
+    /// Writes once to the writer. A write that takes nothing of a piece that isn't empty is a
+    /// fault.
     fn write(&mut self, piece: &[u8]) -> Result<usize, Outside> {
         match self.writer.write(piece) {
             Ok(count) if count > 0 || piece.is_empty() => Ok(count),

@@ -83,16 +83,16 @@ impl Making {
         Ok(())
     }
 
-    /// Ends the chunk before, if there is one, and begins another. Its name has four letters, the last
-    /// of them spaces where it is written with fewer.
+    /// Ends the chunk before, if there is one, and begins another. Its name has four letters, the
+    /// last of them spaces where it is written with fewer.
     fn begin_chunk(&mut self, name: &str) -> Result<()> {
         self.end_chunk()?;
         self.chunk = Some(format!(in self.alloc; "{name:<4}")?);
         Ok(())
     }
 
-    /// Ends the chunk that is being made: its name, its length, its content, and a byte of zero where
-    /// that length is odd.
+    /// Ends the chunk that is being made: its name, its length, its content, and a byte of zero
+    /// where that length is odd.
     fn end_chunk(&mut self) -> Result<()> {
         let Some(name) = self.chunk.take() else {
             return Ok(());
@@ -109,7 +109,8 @@ impl Making {
         Ok(())
     }
 
-    /// Begins the chunk of the format: PCM of so many channels and bits, at 48,000 samples a second.
+    /// Begins the chunk of the format: PCM of so many channels and bits, at 48,000 samples a
+    /// second.
     fn begin_format(&mut self, numbers: &str, tag: u16) -> Result<()> {
         let (channels, depth) = two_numbers(numbers)?;
         let align = channels.wrapping_mul(depth / 8);

@@ -14,7 +14,10 @@ pub struct Pieces<T> {
 impl Source for Pieces<MemSource> {
     ghost use Rattle.lib_base.specs.Sources.{SourceView};
 
-    ghost shown = { λ p. record { left = None; faults = (⟦<MemSource as Source>⟧.shown p.inner).faults } };
+    ghost shown = { λ p. record {
+      left = None;
+      faults = (⟦<MemSource as Source>⟧.shown p.inner).faults;
+    } };
 
     fn read(&mut self, into: &mut [u8]) -> Result<usize, Failed> {
         let most = into.len().min(self.most.max(1));
@@ -25,7 +28,10 @@ impl Source for Pieces<MemSource> {
 impl Sink for Pieces<MemSink> {
     ghost use Rattle.lib_base.specs.Writes.{SinkView};
 
-    ghost shown = { λ p. record { written = None; faults = (⟦<MemSink as Sink>⟧.shown p.inner).faults } };
+    ghost shown = { λ p. record {
+      written = None;
+      faults = (⟦<MemSink as Sink>⟧.shown p.inner).faults;
+    } };
 
     fn write(&mut self, piece: &[u8]) -> Result<usize, Outside> {
         let most = piece.len().min(self.most.max(1));

@@ -26,8 +26,8 @@ pub fn report(alloc: Global, name: &str, outcome: &Outcome) -> Result<String> {
     Ok(text)
 }
 
-/// Adds the output. A line of the text begins where a reply does, and the output's own line ends are
-/// written out.
+/// Adds the output. A line of the text begins where a reply does, and the output's own line ends
+/// are written out.
 fn add_output(text: &mut String, output: &[u8]) -> Result<()> {
     if output.is_empty() {
         return Ok(());
