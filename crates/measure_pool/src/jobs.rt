@@ -40,13 +40,8 @@ fn take_peak<S: Sound>(alloc: Global, sound: &S, stretch: Stretch) -> Result<Fou
     }) }
 {
     let mut scratch = Scratch::new(alloc, sound.scratch_size())?;
-    let peak = peak_of_range(
-        sound,
-        stretch.channel,
-        stretch.from,
-        stretch.to,
-        &mut scratch,
-    );
+    let Stretch { channel, from, to } = stretch;
+    let peak = peak_of_range(sound, channel, from, to, &mut scratch);
     Ok(Found {
         energies: None,
         peak,
