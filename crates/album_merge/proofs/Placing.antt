@@ -1,5 +1,6 @@
 -- Items put in their places by numbers that ascend, and taken out.
-use Rattle.std.proofs.Common.{◌≡◌, ◌<◌, ◌≤◌, ℕ, zero, suc, Bool, true, false, not, List, [], ◌∷◌, map, length, get_or, insert, remove, nat_lt, ◌==◌, cond, refl, sym, ap, ◌∙◌, subst, arith, inl, inr, ◌⊎◌, Contains, All}
+use Rattle.std.proofs.Common.{◌≡◌, ◌<◌, ◌≤◌, ◌+◌, ℕ, zero, suc, Bool, true, false, not, List, [], ◌∷◌, ◌++◌, map, filter, length, take, drop, get_or, insert, remove, nat_lt, ◌==◌, cond, refl, sym, ap, ◌∙◌, subst, arith, inl, inr, ◌⊎◌, Contains, All}
+use Rattle.std.specs.List.{AllPairs}
 use Rattle.std.specs.List.Sorted.{IsNonDecreasingBy}
 use Rattle.std.proofs.lemmas.Bool.{cases_lt}
 use Rattle.std.proofs.lemmas.Bool.Decides.{nat_tests}

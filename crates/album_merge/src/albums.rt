@@ -12,8 +12,8 @@ use std::marker::Model;
 
 /// Recordings by their ids, and what answers their levels together.
 ///
-/// It has at most 256 of them, in ascending id. Only `new` and `reserve` take memory: `add` wants
-/// room that `reserve` made.
+/// It has at most 256 of them, in ascending id. Only `new` and `reserve` take memory: `add` wants room
+/// that `reserve` made.
 #[derive(Debug, Drop)]
 pub struct Album {
     members: Vec<Member>,

@@ -8,8 +8,8 @@ ghost use Rattle.album_merge.specs.Joined.{blocks_in};
 use crate::members::Member;
 use gate_blocks::{Tally, tally_level};
 
-/// The loudness of all blocks of the members, in hundredths of LUFS, absent exactly where none
-/// passes both gates.
+/// The loudness of all blocks of the members, in hundredths of LUFS, absent exactly where none passes
+/// both gates.
 pub(crate) fn loudness_of(members: &[Member]) -> Option<i32>
     requires { length members.now ≤ most_recordings }
     ensures value { (blocks : List ℕ) → IsPermutation (filter is_audible blocks) (blocks_in members.now) → IsLoudness blocks result }

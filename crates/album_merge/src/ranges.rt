@@ -8,8 +8,8 @@ use crate::members::{Member, greatest_window_of};
 use db_table::{hundredths, level};
 use loudness_range::{WindowTally, percentile_place};
 
-/// The range of all windows of the members in hundredths of LU, absent exactly where none passes
-/// both gates.
+/// The range of all windows of the members in hundredths of LU, absent exactly where none passes both
+/// gates.
 pub(crate) fn range_of(members: &[Member]) -> Option<i32>
     requires { length members.now ≤ most_recordings }
     ensures { (windows : List ℕ) → IsPermutation (filter is_window_audible windows) (windows_in members.now) → IsRange windows result }

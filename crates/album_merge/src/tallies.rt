@@ -15,8 +15,8 @@ use std::alloc::Global;
 use std::marker::{Model, Sync};
 use std::thread::Threads;
 
-/// What is kept of a recording to answer its levels, and those of albums with it: made once, so
-/// that no question sums its segments again.
+/// What is kept of a recording to answer its levels, and those of albums with it: made once, so that
+/// no question sums its segments again.
 #[derive(Debug, Drop)]
 pub struct TrackTally {
     blocks: Energies,

@@ -119,8 +119,8 @@ fn attempt<R: Abort + Threads + Sync, L: Ledger>(
 }
 
 // Two windows, one of four times the other's power, are 6.02 LU apart, and the louder one is at
-// 25 * 30 * 19200 / (36 * 11724653), 0.0341 of the power for 0 LUFS. 29 segments have no window,
-// and two such recordings have none together.
+// 25 * 30 * 19200 / (36 * 11724653), 0.0341 of the power for 0 LUFS. 29 segments have no window, and
+// two such recordings have none together.
 fn range<R: Abort + Threads + Sync, L: Ledger>(
     rt: &R,
     alloc: Global,

@@ -1,13 +1,22 @@
 -- Blocks that pass the gates.
-use Rattle.std.proofs.Common.{◌≡◌, ◌≤◌, ◌<◌, ◌+◌, ◌*◌, ◌/◌, ℕ, List, [], ◌∷◌, ◌++◌, length, length-append, nat_lt, take, refl, sym, ap, ◌∙◌, Some, None, arith}
+use Rattle.std.proofs.Common.{◌≡◌, ◌≤◌, ◌<◌, ◌+◌, ◌*◌, ◌/◌, ℕ, Bool, true, false, List, [], ◌∷◌, ◌++◌, length, length-append, nat_lt, take, cond, refl, sym, ap, ◌∙◌, Some, None, arith}
 use Rattle.std.specs.Prelude.{filter, sum, ◌&&◌}
 use Rattle.std.proofs.Math.Nat.{div-le_of_le-mul}
 use Rattle.std.proofs.lemmas.Nat.{le-div}
 use Rattle.std.proofs.lemmas.List.{take_all}
 use Rattle.std.proofs.lemmas.List.Sums.{sum_by-append}
 use Rattle.sound_model.specs.Loudness.{is_audible, is_near, mean}
-use Rattle.sound_model.proofs.PlaceLaws.{filter-filter}
 use Rattle.gate_blocks.specs.Bounds.{IsTallyOf}
+
+-- a filter of a filter keeps what passes both tests
+filter-filter : (p q : ℕ → Bool) (xs : List ℕ) → filter q (filter p xs) ≡ filter (λ x. p x && q x) xs
+filter-filter p q [] = refl
+filter-filter p q (x ∷ xs) =
+    let rest = filter-filter p q xs in
+    elim (p x) as (λ b. filter q (cond b (x ∷ filter p xs) (filter p xs)) ≡ cond (b && q x) (x ∷ filter (λ y. p y && q y) xs) (filter (λ y. p y && q y) xs)) [
+      | true ↦ ap (λ (ys : List ℕ). cond (q x) (x ∷ ys) ys) rest
+      | false ↦ rest
+    ]
 
 -- a tally of one list and one of another make one of both
 pub tally-append : (xs ys : List ℕ) (count total more_count more_total : ℕ) → IsTallyOf xs count total → IsTallyOf ys more_count more_total

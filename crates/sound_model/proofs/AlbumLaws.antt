@@ -1,5 +1,5 @@
 -- What the levels of an album obey.
-use Rattle.std.proofs.Common.{◌≡◌, ◌≤◌, ◌*◌, ℕ, zero, suc, ℤ, pos, negsuc, ◌+ℤ◌, ◌≤ℤ◌, ◌<◌, List, [], ◌∷◌, ◌++◌, max, map, Option, Some, None, refl, ap, arith, inl, inr, ◌⊎◌}
+use Rattle.std.proofs.Common.{◌≡◌, ◌≤◌, ◌*◌, ◌+◌, ℕ, zero, suc, ℤ, pos, negsuc, ◌+ℤ◌, ◌≤ℤ◌, ◌<◌, List, [], ◌∷◌, ◌++◌, max, map, Option, Some, None, refl, sym, ap, ◌∙◌, subst, arith, inl, inr, ◌⊎◌}
 use Rattle.std.specs.List.{AllZip}
 use Rattle.std.specs.Prelude.{All, flat_map}
 use Rattle.std.specs.Int.{int_max, int_div_euclid}
@@ -11,7 +11,7 @@ use Rattle.lib_base.specs.declared.files.Measured.{Measured}
 use Rattle.lib_base.specs.declared.files.Summary.{Summary}
 use Rattle.sound_model.specs.Albums.{IsAlbumSummary, SummarisesMeasured, album_blocks, album_windows, greater_level, greatest_level}
 use Rattle.sound_model.specs.Blocks.{blocks_of, windows_of}
-use Rattle.sound_model.specs.Levels.{hundredths}
+use Rattle.sound_model.specs.Levels.{IsLevel, hundredths}
 use Rattle.sound_model.specs.Loudness.{IfThere, IsBlockLevel, IsWindowLevel, above_zero, greatest, full_power}
 use Rattle.sound_model.proofs.LevelLaws.{level-rises}
 use Rattle.sound_model.proofs.SummaryLaws.{Summarises-unique, IfThere-unique, IsBlockLevel-unique, IsWindowLevel-unique}

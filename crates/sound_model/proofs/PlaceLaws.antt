@@ -1,5 +1,5 @@
 -- Counts of numbers that pass a test, and the number at a place told by such counts alone.
-use Rattle.std.proofs.Common.{◌≡◌, ◌<◌, ◌≤◌, ◌+◌, ℕ, suc, Bool, true, false, List, [], ◌∷◌, length, nat_lt, nat_le, refl, sym, ap, ◌∙◌, arith, cond, zero-add}
+use Rattle.std.proofs.Common.{◌≡◌, ◌<◌, ◌≤◌, ◌+◌, ℕ, suc, Bool, true, false, not, List, [], ◌∷◌, length, nat_lt, nat_le, ◌==◌, refl, sym, ap, ◌∙◌, arith, cond, zero-add}
 use Rattle.std.specs.Prelude.{Contains, count_by, sum_by, filter, ◌&&◌}
 use Rattle.std.specs.List.Sorted.{IsPermutation}
 use Rattle.std.proofs.lemmas.Bool.Decides.{nat_tests}
@@ -77,6 +77,10 @@ count_by-weaker p q (x ∷ xs) more =
     at true true first second rest = omega arith
     at false c first second rest = omega arith
     at true false first second rest = absurd (let passes = more x first in cc)
+
+-- what is less than the next number is no greater than this one
+pub count_by-next : (e : ℕ) (xs : List ℕ) → count_by (λ (x : ℕ). nat_lt x (e + 1)) xs ≤ count_by (λ (x : ℕ). nat_le x e) xs
+count_by-next e xs = count_by-weaker (λ (x : ℕ). nat_lt x (e + 1)) (λ (x : ℕ). nat_le x e) xs (λ x less. grind (arith, nat_tests))
 
 -- no number passes a test that none does
 pub count_by-none : (p : ℕ → Bool) (xs : List ℕ) → ((x : ℕ) → p x ≡ false) → count_by p xs ≡ 0

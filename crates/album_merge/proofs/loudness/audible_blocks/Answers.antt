@@ -1,4 +1,4 @@
-use Rattle.std.proofs.Common.{◌++◌, ℕ, List, take, subst, sym, ap, ◌∙◌, arith}
+use Rattle.std.proofs.Common.{◌++◌, ℕ, List, take, length, subst, sym, ap, ◌∙◌, arith}
 use Rattle.gate_blocks.specs.Bounds.{IsTallyOf}
 use Rattle.album_merge.specs.declared.members.Member.{Member}
 use Rattle.album_merge.specs.Joined.{blocks_in}

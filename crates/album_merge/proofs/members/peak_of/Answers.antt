@@ -1,4 +1,4 @@
-use Rattle.std.proofs.Common.{max, ap, ◌∙◌, arith}
+use Rattle.std.proofs.Common.{◌≡◌, max, ap, ◌∙◌, arith}
 use Rattle.lib_base.specs.declared.files.Summary.{Summary}
 use Rattle.album_merge.specs.declared.members.Member.{Member}
 use Rattle.album_merge.proofs.Running.{greatest_more}

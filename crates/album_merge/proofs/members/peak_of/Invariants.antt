@@ -1,4 +1,4 @@
-use Rattle.std.proofs.Common.{◌≡◌, ◌≤◌, take}
+use Rattle.std.proofs.Common.{◌≡◌, ◌≤◌, ◌*◌, take}
 use Rattle.sound_model.specs.Summaries.{greatest_peak}
 use Rattle.album_merge.specs.Joined.{peak_in}
 use Rattle.album_merge.proofs.members.peak_of.Given as goal

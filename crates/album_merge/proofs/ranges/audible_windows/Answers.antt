@@ -1,4 +1,4 @@
-use Rattle.std.proofs.Common.{◌≤◌, ◌+◌, ℕ, List, All, subst, length, length-append, sum, take, ap, ◌∙◌, sym, arith}
+use Rattle.std.proofs.Common.{◌≤◌, ◌+◌, ℕ, List, All, subst, length, length-append, filter, sum, take, ap, ◌∙◌, sym, arith}
 use Rattle.std.proofs.lemmas.List.Sums.{sum_by-append, length-filter, count_by-le-length}
 use Rattle.std.proofs.lemmas.List.Elements.{All-append, All-weaker, All-filter}
 use Rattle.sound_model.specs.Ranges.{is_window_audible}

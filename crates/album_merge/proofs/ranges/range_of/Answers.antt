@@ -2,7 +2,7 @@ use Rattle.std.proofs.Common.{◌≡◌, ◌≤◌, ◌&&◌, ℕ, nat_le, All, 
 use Rattle.std.proofs.lemmas.Int.{to_z-of_z}
 use Rattle.std.proofs.lemmas.List.Elements.{All-weaker}
 use Rattle.sound_model.specs.Levels.{hundredths}
-use Rattle.sound_model.specs.Ranges.{is_window_audible, is_window_near}
+use Rattle.sound_model.specs.Ranges.{is_window_audible, is_window_near, percentile_place_of}
 use Rattle.album_merge.specs.Joined.{windows_in, greatest_window_in}
 use Rattle.album_merge.proofs.Orders.{IsAt, IsRange-none, IsRange-from_places}
 use Rattle.album_merge.proofs.ranges.range_of.Goals as goal

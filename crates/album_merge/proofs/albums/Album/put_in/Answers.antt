@@ -1,4 +1,4 @@
-use Rattle.std.proofs.Common.{◌≡◌, List, true, length, map, is_ok, Contains, sym, ap, ◌∙◌, subst, arith}
+use Rattle.std.proofs.Common.{◌≡◌, ◌<◌, ◌+◌, ℕ, List, true, length, map, insert, is_ok, vec_len, vec_capacity, Contains, sym, ap, ◌∙◌, subst, arith}
 use Rattle.std.proofs.lemmas.List.{length-map}
 use Rattle.album_merge.specs.declared.members.Member.{Member}
 use Rattle.album_merge.specs.Members.{Kept, AscendBy, IsPlaceOf, member_id, placed}

@@ -1,6 +1,6 @@
-use Rattle.std.proofs.Common.{List, Contains, map, subst}
+use Rattle.std.proofs.Common.{ℕ, List, Contains, map, sym, ap, ◌∙◌, subst}
 use Rattle.album_merge.specs.declared.members.Member.{Member}
-use Rattle.album_merge.specs.Members.{member_id, without_recording}
+use Rattle.album_merge.specs.Members.{member_id, placed, without_recording}
 use Rattle.album_merge.proofs.Joining.{IsAlbumOf-without, gone}
 use Rattle.album_merge.proofs.albums.Album.summary_replacing.Goals as goal
 

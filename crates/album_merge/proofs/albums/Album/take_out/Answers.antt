@@ -1,6 +1,7 @@
-use Rattle.std.proofs.Common.{◌≡◌, ◌<◌, ℕ, List, length, All, Contains, sym, ap, ◌∙◌, subst, arith}
+use Rattle.std.proofs.Common.{◌≡◌, ◌<◌, ℕ, List, get_or, length, All, Contains, sym, ap, ◌∙◌, subst, arith}
 use Rattle.album_merge.specs.declared.members.Member.{Member}
 use Rattle.album_merge.specs.Members.{Kept, IsPlaceOf, member_id, placed, without}
+use Rattle.album_merge.specs.Tallies.{Tallied}
 use Rattle.album_merge.proofs.Joining.{absent_past, absent_at, has_none}
 use Rattle.album_merge.proofs.Placing.{without_none, without_at, placed_back, at_place, only_one}
 use Rattle.album_merge.proofs.albums.Album.take_out.Goals as goal

@@ -1,3 +1,6 @@
+use Rattle.std.proofs.Common.{◌≡◌, ◌*◌, ◌^◌, ◌&&◌, ℕ, List, length, nat_le, true, sym, ap, ◌∙◌, arith}
+use Rattle.std.specs.Prelude.{sum}
+use Rattle.sound_model.specs.Ranges.{is_window_audible, is_window_near}
 use Rattle.loudness_range.proofs.Ceilings.{near_reached, audible_from}
 use Rattle.loudness_range.proofs.tallies.WindowTally.least_passing.Goals as goal
 
