@@ -1,6 +1,7 @@
 //! Headers, read and refused.
 use crate::{Header, Info, Stereo, read_header};
-use lib_base::{Broken, Rule};
+use file_model::FlacRule;
+use lib_base::Broken;
 
 /// A file of one channel of 16 bits.
 const MONO: Info = Info {
@@ -27,31 +28,38 @@ fn a_header_behind_other_bytes(rt: HostRuntime) {
     );
 }
 
+/// The refusal by a rule, at the start.
+fn by_rule(rule: FlacRule) -> Result<Header, Broken> {
+    Err(Broken {
+        rule: rule.rule(),
+        place: 0,
+    })
+}
+
 /// Each row: the place of a byte, the other byte there, and the rule that it breaks.
 #[test]
-fn broken_headers(rt: HostRuntime) {
-    let rows = [
-        (1, 0xF0, 9),
-        (2, 0x0A, 10),
-        (2, 0x6F, 11),
-        (3, 0xB8, 12),
-        (3, 0x06, 13),
-        (3, 0x09, 14),
-        (4, 0x80, 15),
-        (2, 0x69, 16),
-        (3, 0x18, 17),
-        (3, 0x02, 18),
-        (6, 0x0B, 19),
+fn each_edit_breaks_its_rule(rt: HostRuntime) {
+    let edits = [
+        (1, 0xF0, FlacRule::LostSync),
+        (2, 0x0A, FlacRule::ReservedBlockSize),
+        (2, 0x6F, FlacRule::ForbiddenRate),
+        (3, 0xB8, FlacRule::ReservedChannels),
+        (3, 0x06, FlacRule::ReservedDepth),
+        (3, 0x09, FlacRule::ReservedBit),
+        (4, 0x80, FlacRule::OtherCodedNumber),
+        (2, 0x69, FlacRule::FrameRate),
+        (3, 0x18, FlacRule::FrameChannels),
+        (3, 0x02, FlacRule::FrameDepth),
+        (6, 0x0B, FlacRule::HeaderCheck),
     ];
-    for (place, byte, number) in rows {
+    for (place, byte, rule) in edits {
+        assert!(rt; place < 7);
         let mut bytes = HEADER;
         bytes[place] = byte;
         assert_eq!(rt;
             read_header(&bytes, 0, &MONO),
-            Err(Broken {
-                rule: Rule::F(number),
-                place: 0
-            })
+            by_rule(rule),
+            "byte {place} as {byte}"
         );
     }
 }
@@ -62,10 +70,8 @@ fn cut_headers(rt: HostRuntime) {
     for length in 0..HEADER.len() {
         assert_eq!(rt;
             read_header(&HEADER[..length], 0, &MONO),
-            Err(Broken {
-                rule: Rule::F(29),
-                place: 0
-            })
+            by_rule(FlacRule::CutFrame),
+            "{length} bytes"
         );
     }
 }
