@@ -164,13 +164,7 @@ fn an_import_is_kept(rt: HostRuntime) -> Result<(), Fail> {
     let mut keeper = MemKeeper::new(Tables::empty(alloc), Vec::new(alloc));
     let mut vault = MemVault::new(alloc, Vec::new(alloc));
     let mut library = Library::open(alloc, &mut keeper)?;
-    let reply = import(
-        &rt,
-        &mut library,
-        FOUR.as_slice(),
-        &mut keeper,
-        &mut vault,
-    )?;
+    let reply = import(&rt, &mut library, FOUR.as_slice(), &mut keeper, &mut vault)?;
     assert_eq!(rt; reply.status, 201);
     let tables = keeper.load()?;
     assert_eq!(rt;
@@ -199,13 +193,7 @@ fn a_question_is_answered_from_the_rows(rt: HostRuntime) -> Result<(), Fail> {
     let mut keeper = MemKeeper::new(Tables::empty(alloc), Vec::new(alloc));
     let mut vault = MemVault::new(alloc, Vec::new(alloc));
     let mut library = Library::open(alloc, &mut keeper)?;
-    import(
-        &rt,
-        &mut library,
-        FOUR.as_slice(),
-        &mut keeper,
-        &mut vault,
-    )?;
+    import(&rt, &mut library, FOUR.as_slice(), &mut keeper, &mut vault)?;
     for (id, status, body) in [
         (
             1,

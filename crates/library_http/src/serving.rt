@@ -193,7 +193,9 @@ fn serve<R: Threads + Sync, K: Sink, D: Keeper, V: Vault, L: Ledger>(
     let mut rest = input;
     let mut answered = 0u32;
     'requests: loop {
-        match serve_next(rt, alloc, library, keeper, vault, rest, sink, workers, &mut steps) {
+        match serve_next(
+            rt, alloc, library, keeper, vault, rest, sink, workers, &mut steps,
+        ) {
             Turn::Answered(end) => {
                 answered += 1;
                 rest = rest.split_at(end).1;
@@ -232,7 +234,9 @@ fn serve_next<R: Threads + Sync, K: Sink, D: Keeper, V: Vault, L: Ledger>(
             let file = &bytes[body.start..body.end];
             turn_of(
                 body.end,
-                serve_import(rt, alloc, library, keeper, vault, file, sink, workers, steps),
+                serve_import(
+                    rt, alloc, library, keeper, vault, file, sink, workers, steps,
+                ),
             )
         }
         Framed::Question { question, end } => {

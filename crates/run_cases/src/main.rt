@@ -71,7 +71,13 @@ impl<'a> Told<'a> {
     }
 
     /// Runs the case of the lines and answers the report.
-    fn run<R: Threads + Sync>(&self, rt: &R, alloc: Global, name: &str, lines: &[&str]) -> Result<String> {
+    fn run<R: Threads + Sync>(
+        &self,
+        rt: &R,
+        alloc: Global,
+        name: &str,
+        lines: &[&str],
+    ) -> Result<String> {
         let (files, cases) = (self.files.as_slice(), self.cases.as_slice());
         let case = read_case(alloc, lines, cases, files)?;
         report(alloc, name, &run_case(rt, alloc, case)?)

@@ -72,9 +72,7 @@ fn run_over<R: Threads + Sync>(
     vault: &mut MemVault,
 ) -> Result<u8> {
     match MemDoor::new(alloc, Vec::new(alloc), Vec::new(alloc)) {
-        Ok(mut door) => Ok(run(
-            rt, alloc, words, source, sink, keeper, vault, &mut door,
-        )),
+        Ok(mut door) => Ok(run(rt, alloc, words, source, sink, keeper, vault, &mut door)),
         Err(_) => bail!("want of memory"),
     }
 }
