@@ -1,4 +1,5 @@
 pub mod Asked
+pub mod Bodies
 pub mod Findings
 pub mod Framing
 pub mod Machine
