@@ -7,7 +7,7 @@ use Rattle.lib_base.specs.declared.files.Measured.{Measured}
 use Rattle.lib_base.specs.declared.files.Summary.{Summary}
 use Rattle.file_model.specs.Pcm.{Pcm}
 use Rattle.file_model.specs.Reading.{Reads, accepted}
-use Rattle.library_model.specs.Findings.{Finds, measured, broken_by}
+use Rattle.library_model.specs.Findings.{Finds, measured, measured_of, broken_by}
 use Rattle.library_model.specs.declared.messages.Command.TheVariants.{Import}
 use Rattle.library_model.specs.declared.messages.Reply.{Reply}
 use Rattle.library_model.specs.declared.messages.Request.{Request}
@@ -21,7 +21,7 @@ use Rattle.library_model.proofs.Imports.{imported-IsValid, tables_of-imported, H
 use Rattle.catalogue_core.specs.declared.prepared.Prepared.{Prepared}
 use Rattle.catalogue_core.specs.declared.prepared.Staged.{Staged}
 use Rattle.catalogue_core.specs.declared.prepared.Staged.TheVariants.{Refused, Ready}
-use Rattle.catalogue_core.specs.Examining.{IsMeasuredOf, measured_of}
+use Rattle.catalogue_core.specs.Examining.{IsMeasuredOf}
 use Rattle.catalogue_core.specs.Imports.{lacks_numbers, PreparesImport, StagesAccepted}
 use Rattle.catalogue_core.specs.Staging.{Prepares, RefusesBy, StagedFrom}
 

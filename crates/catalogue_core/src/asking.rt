@@ -7,7 +7,7 @@ ghost use Rattle.catalogue_core.specs.Asking.{found_row_reply};
 ghost use Rattle.catalogue_core.specs.Kept.{Keeps};
 
 use crate::Library;
-use crate::reply_texts::{describe_row, refuse};
+use json_bodies::{describe_row, refuse};
 use keeper_store::{RecordingRow, Vault};
 use lib_base::Memory;
 use library_model::{Question, Refusal, Reply};

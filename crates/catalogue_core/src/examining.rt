@@ -6,7 +6,8 @@ ghost use Rattle.measure_pool.specs.declared.plans.TheConstants.{MOST_WORKERS};
 ghost use Rattle.sound_model.specs.Blocks.{blocks_of, windows_of};
 ghost use Rattle.sound_model.specs.Summaries.{Summarises};
 ghost use Rattle.wave_chunks.specs.Answers.{IsReadOf};
-ghost use Rattle.catalogue_core.specs.Examining.{IsFound, IsSummable, measured_of};
+ghost use Rattle.catalogue_core.specs.Examining.{IsFound, IsSummable};
+ghost use Rattle.library_model.specs.Findings.{measured_of};
 
 use album_merge::summarise;
 use gate_blocks::{blocks, windows};

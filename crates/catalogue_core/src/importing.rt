@@ -2,12 +2,13 @@
 ghost use Rattle.std.specs.Prelude.{◌≡◌, false, IfOk};
 ghost use Rattle.md5.specs.Md5.{md5};
 ghost use Rattle.keeper_store.specs.EnergyBytes.{AreEnergies};
-ghost use Rattle.catalogue_core.specs.Imports.{import_row, import_segments, import_changes, PreparesImport, lacks_numbers};
+ghost use Rattle.library_model.specs.Stands.{segments_of};
+ghost use Rattle.catalogue_core.specs.Imports.{import_row, import_changes, PreparesImport, lacks_numbers};
 ghost use Rattle.catalogue_core.specs.Committing.{Fits};
 ghost use Rattle.catalogue_core.specs.Kept.{kept_tables};
 
-use crate::reply_texts::{describe_row, refuse};
 use crate::{Library, Prepared};
+use json_bodies::{describe_row, refuse};
 use keeper_store::{Batch, Change, RecordingRow, Rows, SegmentRow, bytes_of};
 use lib_base::{Kind, Measured, Memory, Summary, Text};
 use library_model::Refusal;
@@ -81,7 +82,7 @@ fn new_row(library: &Library, file: &[u8], measured: &Measured, summary: Summary
 
 fn segment_row(library: &Library, measured: &Measured) -> Result<SegmentRow, Memory>
     requires { AreEnergies measured.now.energies }
-    ensures { IfOk result (λ row. row ≡ import_segments (kept_tables library.now) measured.now) }
+    ensures { IfOk result (λ row. row ≡ segments_of library.now.next_take measured.now) }
 {
     let take = library.next_take;
     let energies = bytes_of(library.alloc, measured.energies.as_slice())?;

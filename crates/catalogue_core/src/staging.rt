@@ -9,8 +9,8 @@ ghost use Rattle.catalogue_core.specs.Staging.{StagedFrom, Stages, LeavesUnlessF
 
 use crate::examining::{Examined, examine};
 use crate::importing::prepare_import;
-use crate::reply_texts::{refuse, refuse_format};
 use crate::{Library, Staged};
+use json_bodies::{refuse, refuse_format};
 use keeper_store::Vault;
 use lib_base::{Bytes, Measured, Memory, Outside, Steps, Summary};
 use library_model::{Command, Refusal, Request};

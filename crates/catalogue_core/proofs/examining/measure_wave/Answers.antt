@@ -6,7 +6,7 @@ use Rattle.file_model.specs.Pcm.{Pcm}
 use Rattle.file_model.specs.Wave.{IsWave}
 use Rattle.file_model.proofs.Waves.{IsWave_unique}
 use Rattle.sound_model.specs.Summaries.{measured}
-use Rattle.catalogue_core.specs.Examining.{measured_of}
+use Rattle.library_model.specs.Findings.{measured_of}
 use Rattle.catalogue_core.proofs.examining.measure_wave.Goals as goal
 
 same_measured : (depth frames : ℕ) (lists : List (List ℤ)) (sound : Pcm) → depth ≡ sound.depth → frames ≡ sound.frames → lists ≡ sound.lists
