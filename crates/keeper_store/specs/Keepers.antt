@@ -6,7 +6,7 @@ use Rattle.lib_base.specs.declared.outcomes.Outside.TheVariants as outside
 use Rattle.keeper_store.specs.declared.contents.Tables.{Tables}
 use Rattle.keeper_store.specs.declared.contents.Change.{Change}
 use Rattle.keeper_store.specs.Changes.{changed_all}
-use Rattle.keeper_store.specs.Goes.{Goes, RoseByOneAtMost}
+use Rattle.keeper_store.specs.Goes.{Goes, RoseByOne}
 
 -- what a keeper tells
 pub record KeeperView : Type 0 where
@@ -25,16 +25,16 @@ GivesTables r old new = (new ≡ old) × IfOk r (λ t. t ≡ old)
 abbrev pub MakesChanges : {T E : Type 0} → List Change → Result T E → Tables → Tables → Type 0
 MakesChanges changes r old new = OnOk r (new ≡ changed_all changes old) × OnErr r (new ≡ old)
 
--- A load gives the tables, and leaves them. Want of memory counts no fault.
+-- A load gives the tables, leaves them, and counts as no apply. Want of memory counts no fault.
 pub record Loads (old new : KeeperView) (r : Result Tables Outside) : Type 0 where
   pub content : Goes (GivesTables r) old.tables new.tables
   pub faults : CountsFault (IsErrOf r outside.Failed) old.faults new.faults
   pub memory : IsErrOf r outside.Memory → new.faults ≡ old.faults
   pub applies : new.applies ≡ old.applies
 
--- An apply makes all the changes, or none where it is refused. Want of memory counts no fault.
+-- An apply makes all the changes, or none where it is refused, and is counted. Want of memory counts no fault.
 pub record Applies {T : Type 0} (changes : List Change) (old new : KeeperView) (r : Result T Outside) : Type 0 where
   pub content : Goes (MakesChanges changes r) old.tables new.tables
   pub faults : CountsFault (IsErrOf r outside.Failed) old.faults new.faults
   pub memory : IsErrOf r outside.Memory → new.faults ≡ old.faults
-  pub applies : RoseByOneAtMost old.applies new.applies
+  pub applies : RoseByOne old.applies new.applies

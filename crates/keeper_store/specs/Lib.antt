@@ -4,5 +4,6 @@ pub mod EnergyBytes
 pub mod Goes
 pub mod Keepers
 pub mod Memory
+pub mod Orders
 pub mod Puts
 pub mod Vaults

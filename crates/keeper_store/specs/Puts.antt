@@ -1,6 +1,7 @@
 -- Rows in the order of a test.
-use Rattle.std.specs.Prelude.{◌≡◌, Bool, true, false, List, [], ◌∷◌, if◌then◌else◌, nat_lt}
-use Rattle.std.specs.List.{AllByRecursion}
+use Rattle.std.specs.Prelude.{◌≡◌, ◌≤◌, ◌<◌, ℕ, Bool, true, false, List, [], ◌∷◌, ◌++◌, length, take, drop, slice_index_or, if◌then◌else◌, nat_lt}
+use Rattle.std.specs.Coded.{Coded-set, coded_bool, ×_prop, →_prop, Unit-prop}
+use Rattle.std.specs.List.{AllByRecursion, AllByRecursion-prop}
 use Rattle.keeper_store.specs.declared.row_types.RecordingRow.{RecordingRow}
 use Rattle.keeper_store.specs.declared.row_types.SegmentRow.{SegmentRow}
 
@@ -30,3 +31,21 @@ pub record IsOrder {A : Type 0} (less : A → A → Bool) : Type 0 where
 abbrev pub Ascends : {A : Type 0} → (A → A → Bool) → List A → Type 0
 Ascends less [] = Unit {0}
 Ascends less (r ∷ rs) = AllByRecursion (λ s. less r s ≡ true) rs × Ascends less rs
+
+-- that rows ascend has one proof at most
+pub Ascends-prop : {A : Type 0} (less : A → A → Bool) (xs : List A) → IsProp (Ascends less xs)
+Ascends-prop less [] = Unit-prop
+Ascends-prop less (r ∷ rs) = ×_prop (AllByRecursion-prop _ (λ s. Coded-set coded_bool _ _) rs) (Ascends-prop less rs)
+
+-- rows ascend, where a test said so
+abbrev pub AscendsWhere : {A : Type 0} → Bool → (A → A → Bool) → List A → Type 0
+AscendsWhere tested less xs = tested ≡ true → Ascends less xs
+
+pub AscendsWhere-prop : {A : Type 0} (tested : Bool) (less : A → A → Bool) (xs : List A) → IsProp (AscendsWhere tested less xs)
+AscendsWhere-prop tested less xs = →_prop (Ascends-prop less xs)
+
+-- the place where a row is put: behind those that are less
+pub record IsPlaceOf {A : Type 0} (less : A → A → Bool) (row : A) (xs : List A) (place : ℕ) : Type 0 where
+  pub within : place ≤ length xs
+  pub splits : put less row xs ≡ take place xs ++ put less row (drop place xs)
+  pub stops : (d : A) → place < length xs → less (slice_index_or xs place d) row ≡ false

@@ -1,10 +1,10 @@
 -- What a vault tells, and what its calls do to that.
-use Rattle.std.specs.Prelude.{◌≡◌, ◌≤◌, ℕ, List, Option, None, Some, Result, IfOk, OnOk, IsErr, IsErrOf}
-use Rattle.lib_base.specs.Faults.{Rose, CountsFault}
+use Rattle.std.specs.Prelude.{◌≡◌, ℕ, List, Option, None, Some, Result, IfOk, OnOk, IsErr, IsErrOf}
+use Rattle.lib_base.specs.Faults.{CountsFault}
 use Rattle.lib_base.specs.declared.outcomes.Outside.{Outside}
 use Rattle.lib_base.specs.declared.outcomes.Outside.TheVariants as outside
 use Rattle.keeper_store.specs.Blobs.{Blobs, AllKept, OthersKept}
-use Rattle.keeper_store.specs.Goes.{Goes, RoseByOneAtMost}
+use Rattle.keeper_store.specs.Goes.{Goes, RoseByOne}
 
 -- what a vault tells
 pub record VaultView : Type 0 where
@@ -29,30 +29,26 @@ GivesHeld key r old new = IfOk r (λ held. held ≡ old key) × AllKept old new
 abbrev pub DropsUnder : {T E : Type 0} → ℕ → Result T E → Blobs → Blobs → Type 0
 DropsUnder key r old new = OnOk r (new key ≡ None) × OthersKept key old new
 
--- a call was counted
-pub record CountsCalls (before now : ℕ) : Type 0 where
-  pub later : before ≤ now
-  pub called : Rose before now
-
--- A put leaves the bytes under the key, and touches no other. Want of memory counts no fault.
+-- A put leaves the bytes under the key, touches no other, and is counted among the calls and the changes. Want of memory
+-- counts no fault.
 pub record Puts {T : Type 0} (key : ℕ) (bytes : List ℕ) (old new : VaultView) (r : Result T Outside) : Type 0 where
   pub content : Goes (PutsUnder key bytes r) old.blobs new.blobs
   pub faults : CountsFault (IsErrOf r outside.Failed) old.faults new.faults
   pub memory : IsErrOf r outside.Memory → new.faults ≡ old.faults
-  pub calls : CountsCalls old.calls new.calls
-  pub changes : RoseByOneAtMost old.changes new.changes
+  pub calls : RoseByOne old.calls new.calls
+  pub changes : RoseByOne old.changes new.changes
 
--- A get answers what the key holds, and changes none. Want of memory counts no fault.
+-- A get answers what the key holds, changes none, and is counted among the calls. Want of memory counts no fault.
 pub record Gets (key : ℕ) (old new : VaultView) (r : Result (Option (List ℕ)) Outside) : Type 0 where
   pub content : Goes (GivesHeld key r) old.blobs new.blobs
   pub faults : CountsFault (IsErrOf r outside.Failed) old.faults new.faults
   pub memory : IsErrOf r outside.Memory → new.faults ≡ old.faults
-  pub calls : CountsCalls old.calls new.calls
+  pub calls : RoseByOne old.calls new.calls
   pub changes : new.changes ≡ old.changes
 
--- A drop leaves nothing under the key, and touches no other.
+-- A drop leaves nothing under the key, touches no other, and is counted among the calls and the changes.
 pub record Drops {T E : Type 0} (key : ℕ) (old new : VaultView) (r : Result T E) : Type 0 where
   pub content : Goes (DropsUnder key r) old.blobs new.blobs
   pub faults : CountsFault (IsErr r) old.faults new.faults
-  pub calls : CountsCalls old.calls new.calls
-  pub changes : RoseByOneAtMost old.changes new.changes
+  pub calls : RoseByOne old.calls new.calls
+  pub changes : RoseByOne old.changes new.changes

@@ -18,6 +18,6 @@ mod vaults;
 pub use contents::{Batch, Change, Changes, Tables};
 pub use energy_bytes::{RowFault, bytes_of, energies_of};
 pub use keepers::{Keeper, MemKeeper};
-pub use places::{Numbered, put_row};
+pub use places::{Ranked, put_row};
 pub use row_types::{AlbumRow, RecordingRow, ReplyRow, Rows, SegmentRow};
 pub use vaults::{MemVault, Vault};

@@ -2,13 +2,16 @@
 ghost use Rattle.std.specs.Prelude.{◌≡◌, ◌+◌, ℕ, IfOk, OnOk, length};
 ghost use Rattle.keeper_store.specs.Changes.{changed, changed_all};
 ghost use Rattle.keeper_store.specs.Keepers.{MakesChanges};
-ghost use Rattle.keeper_store.specs.Memory.{held_tables, HasRoom};
+ghost use Rattle.keeper_store.specs.Puts.{recording_less, segments_less, AscendsWhere, AscendsWhere-prop};
 
-use crate::places::put_row;
+use crate::places::{ascend, put_tested};
 use crate::{AlbumRow, Batch, Change, RecordingRow, ReplyRow, Rows, SegmentRow, Tables};
 use lib_base::Memory;
 
 /// Tables in memory, of which those that changes put rows into can be given room beforehand.
+///
+/// They may be any tables. Where the rows ascend, which is tested once, they go on ascending, and a
+/// row finds its place by halving.
 #[derive(Debug, Drop)]
 pub(crate) struct MemTables {
     next_album: u32,
@@ -18,21 +21,30 @@ pub(crate) struct MemTables {
     recordings: Vec<RecordingRow>,
     segments: Vec<SegmentRow>,
     replies: Rows<ReplyRow>,
+    ascending: bool,
+    ghost recordings_ascend: { AscendsWhere ascending recording_less recordings.items } by { AscendsWhere-prop ascending recording_less recordings.items },
+    ghost segments_ascend: { AscendsWhere ascending segments_less segments.items } by { AscendsWhere-prop ascending segments_less segments.items },
 }
 
 impl MemTables {
+    ghost use Rattle.keeper_store.specs.Memory.{held_tables, HasRoom};
+
     /// These tables, with no memory taken.
     pub(crate) fn of(tables: Tables) -> MemTables
         ensures { held_tables result ≡ tables }
     {
+        let recordings = tables.recordings.into_vec();
+        let segments = tables.segments.into_vec();
+        let ascending = ascend(recordings.as_slice()) && ascend(segments.as_slice());
         MemTables {
             next_album: tables.next_album,
             next_recording: tables.next_recording,
             next_take: tables.next_take,
             albums: tables.albums,
-            recordings: tables.recordings.into_vec(),
-            segments: tables.segments.into_vec(),
+            recordings,
+            segments,
             replies: tables.replies,
+            ascending,
         }
     }
 
@@ -102,8 +114,10 @@ impl MemTables {
                 self.next_recording = next_recording;
                 self.next_take = next_take;
             }
-            Change::PutRecording(row) => put_row(&mut self.recordings, row),
-            Change::PutSegments(row) => put_row(&mut self.segments, row),
+            Change::PutRecording(row) => {
+                put_tested(&mut self.recordings, row, self.ascending);
+            }
+            Change::PutSegments(row) => put_tested(&mut self.segments, row, self.ascending),
         }
     }
 }

@@ -1,6 +1,6 @@
 //! The objects in memory, called in turn.
 use crate::{
-    Batch, Change, Changes, Keeper, MemKeeper, MemVault, RecordingRow, RowFault, SegmentRow,
+    Batch, Change, Changes, Keeper, MemKeeper, MemVault, RecordingRow, RowFault, Rows, SegmentRow,
     Tables, Vault, bytes_of, energies_of, put_row,
 };
 use lib_base::{Bytes, Kind, Memory, Outside, Summary, Text};
@@ -117,15 +117,31 @@ fn vault_holds_bytes_by_key(rt: HostRuntime) -> Result<(), Fail> {
 #[test]
 fn rows_go_to_their_places(rt: HostRuntime) -> Result<(), Fail> {
     let alloc = rt.alloc();
-    let mut rows = Vec::new(alloc);
-    for (id, take) in [(5, 1), (3, 2), (9, 3), (5, 4), (1, 5)] {
-        rows.reserve(1)?;
-        put_row(&mut rows, recording(alloc, id, take)?);
-    }
+    let mut rows = Vec::with_capacity(alloc, 4)?;
+    put_row(&mut rows, recording(alloc, 5, 1)?);
+    put_row(&mut rows, recording(alloc, 3, 2)?);
+    put_row(&mut rows, recording(alloc, 9, 3)?);
+    put_row(&mut rows, recording(alloc, 5, 4)?);
     let pairs = ids_and_takes(alloc, rows.as_slice())?;
+    assert_eq!(rt; pairs.as_slice(), [(3, 2), (5, 4), (9, 3)].as_slice());
+    Ok(())
+}
+
+// A keeper may be given rows that don't ascend: a row stands before the first that isn't less.
+#[test]
+fn keeper_puts_among_rows_in_any_order(rt: HostRuntime) -> Result<(), Fail> {
+    let alloc = rt.alloc();
+    let mut rows = Vec::new(alloc);
+    rows.push(recording(alloc, 9, 1)?)?;
+    rows.push(recording(alloc, 3, 2)?)?;
+    let mut tables = Tables::empty(alloc);
+    tables.recordings = Rows::of(rows);
+    let mut keeper = MemKeeper::new(tables, Vec::new(alloc));
+    assert_eq!(rt; keeper.apply(&batch(alloc, 8)?), Ok(()));
+    let pairs = ids_and_takes(alloc, keeper.load()?.recordings.as_slice())?;
     assert_eq!(rt;
         pairs.as_slice(),
-        [(1, 5), (3, 2), (5, 4), (9, 3)].as_slice()
+        [(3, 2), (5, 8), (9, 1), (3, 2)].as_slice()
     );
     Ok(())
 }
