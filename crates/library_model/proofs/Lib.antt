@@ -1,5 +1,5 @@
 pub mod Runs
 pub mod Imports
 pub mod Measuring
-pub mod Readings
+pub mod Verdicts
 pub mod Rows

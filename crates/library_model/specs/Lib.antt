@@ -1,6 +1,5 @@
 pub mod Asked
 pub mod Findings
-pub mod Framing
 pub mod Machine
 pub mod Refusals
 pub mod Replies
