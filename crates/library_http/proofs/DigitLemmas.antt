@@ -4,7 +4,7 @@ use Rattle.std.specs.Char.{is_ascii_digit}
 use Rattle.std.specs.Str.{all_ascii_digits}
 use Rattle.std.specs.Str.Parse.{digits_value_after}
 use Rattle.std.proofs.lemmas.Grind.{common_steps}
-use Rattle.library_model.specs.Framing.{length_written}
+use Rattle.http_model.specs.Framing.{length_written}
 
 -- the number of the digits behind those of a number
 abbrev pub read_on : ℕ → List ℕ → Option ℕ

@@ -5,9 +5,10 @@ use Rattle.lib_base.specs.Sources.{SourceView}
 use Rattle.lib_base.specs.Writes.{SinkView}
 use Rattle.lib_base.specs.declared.sources.ReadEnd.{ReadEnd}
 use Rattle.lib_base.specs.declared.sources.ReadEnd.TheVariants.{End, Full, Fault}
-use Rattle.library_model.specs.declared.refusals.Refusal.TheVariants.{Frame, Size}
-use Rattle.library_model.specs.Framing.{input_limit, ended, unframeable}
-use Rattle.library_model.specs.Replies.{refusal, spelled}
+use Rattle.http_model.specs.declared.refusals.FramingRefusal.TheVariants.{Frame, Size}
+use Rattle.http_model.specs.Framing.{input_limit, ended, unframeable}
+use Rattle.http_model.specs.Refusals.{framing_refusal}
+use Rattle.http_model.specs.Spelling.{spelled}
 use Rattle.library_model.specs.State.{State}
 use Rattle.catalogue_core.specs.Kept.{Keeps}
 use Rattle.library_http.specs.declared.serving.How.{How}
@@ -43,7 +44,7 @@ Session-unread start source sink w keeps = (
 -- an input that is too long is refused alone
 pub Session-too-long : (start : State) (how : How) (source rest : SourceView) (sink0 sink1 : SinkView) (input : List ℕ) (w : World)
     → Keeps w.library start → length input ≡ input_limit + 1 → Consumes source.left rest.left input
-    → EndsBy how (spelled true (refusal Size)) sink0 sink1 → Session start how 0 source rest sink0 sink1 w w
+    → EndsBy how (spelled true (framing_refusal Size)) sink0 sink1 → Session start how 0 source rest sink0 sink1 w w
 Session-too-long start Ended source rest sink0 sink1 input w keeps long took ends = absurd ends
 Session-too-long start SourceFault source rest sink0 sink1 input w keeps long took ends = absurd ends
 Session-too-long start Unframeable source rest sink0 sink1 input w keeps long took ends = (
@@ -51,7 +52,7 @@ Session-too-long start Unframeable source rest sink0 sink1 input w keeps long to
   took,
   omega arith,
   (λ within. absurd (omega arith)),
-  refusal Size,
+  framing_refusal Size,
   [],
   ends,
   Answered-too-long start input w keeps (omega arith),
@@ -59,20 +60,20 @@ Session-too-long start Unframeable source rest sink0 sink1 input w keeps long to
 Session-too-long start SinkFault source rest sink0 sink1 input w keeps long took ends = (
   input,
   took,
-  inr (BreaksOffAtEnd-refusal start input (refusal Size) 0 [] rest sink0 sink0 sink1 w w (omega arith)
+  inr (BreaksOffAtEnd-refusal start input (framing_refusal Size) 0 [] rest sink0 sink0 sink1 w w (omega arith)
       (λ within. absurd (omega arith)) (Answered-too-long start input w keeps (omega arith)) (Appends-none sink0.written) ends),
 )
 Session-too-long start Memory source rest sink0 sink1 input w keeps long took ends = (
   input,
   took,
-  inr (inl (BreaksOffAtEnd-refusal start input (refusal Size) 0 [] rest sink0 sink0 sink1 w w (omega arith)
+  inr (inl (BreaksOffAtEnd-refusal start input (framing_refusal Size) 0 [] rest sink0 sink0 sink1 w w (omega arith)
       (λ within. absurd (omega arith)) (Answered-too-long start input w keeps (omega arith)) (Appends-none sink0.written) ends)),
 )
 
 -- a refusal that ends a whole input
 Session-refused : (start : State) (how : How) (n : ℕ) (source rest : SourceView) (sink0 sink1 sink2 : SinkView) (input : List ℕ) (w0 w1 : World)
     → length input ≤ input_limit → Consumes source.left rest.left input → IsAtEnd rest.left → Stops start input AtRefusal n sink0 sink1 w0 w1
-    → EndsBy how (spelled true (refusal Frame)) sink1 sink2 → Session start how n source rest sink0 sink2 w0 w1
+    → EndsBy how (spelled true (framing_refusal Frame)) sink1 sink2 → Session start how n source rest sink0 sink2 w0 w1
 Session-refused start Ended n source rest sink0 sink1 sink2 input w0 w1 short took at_end stops ends = absurd ends
 Session-refused start SourceFault n source rest sink0 sink1 sink2 input w0 w1 short took at_end stops ends = absurd ends
 Session-refused start Unframeable n source rest sink0 sink1 sink2 input w0 w1 short took at_end stops ends = (
@@ -80,15 +81,15 @@ Session-refused start Unframeable n source rest sink0 sink1 sink2 input w0 w1 sh
   took,
   omega arith,
   (λ _. at_end),
-  refusal Frame,
+  framing_refusal Frame,
   stops.0,
-  Appends-refused sink0.written sink1.written sink2.written stops.0 (refusal Frame) stops.1 ends,
+  Appends-refused sink0.written sink1.written sink2.written stops.0 (framing_refusal Frame) stops.1 ends,
   stops.2,
 )
 Session-refused start SinkFault n source rest sink0 sink1 sink2 input w0 w1 short took at_end stops ends =
-    (input, took, inr (BreaksOffAtEnd-refusal start input (refusal Frame) n stops.0 rest sink0 sink1 sink2 w0 w1 (omega arith) (λ _. at_end) stops.2 stops.1 ends))
+    (input, took, inr (BreaksOffAtEnd-refusal start input (framing_refusal Frame) n stops.0 rest sink0 sink1 sink2 w0 w1 (omega arith) (λ _. at_end) stops.2 stops.1 ends))
 Session-refused start Memory n source rest sink0 sink1 sink2 input w0 w1 short took at_end stops ends =
-    (input, took, inr (inl (BreaksOffAtEnd-refusal start input (refusal Frame) n stops.0 rest sink0 sink1 sink2 w0 w1 (omega arith) (λ _. at_end) stops.2 stops.1 ends)))
+    (input, took, inr (inl (BreaksOffAtEnd-refusal start input (framing_refusal Frame) n stops.0 rest sink0 sink1 sink2 w0 w1 (omega arith) (λ _. at_end) stops.2 stops.1 ends)))
 
 -- an end that writes nothing more
 ends_so : (start : State) (how so : How) (n : ℕ) (source rest : SourceView) (sink0 sink1 sink2 : SinkView) (w0 w1 : World)
@@ -112,7 +113,7 @@ Session-after start AtEnd End how n source rest sink0 sink1 sink2 input w0 w1 sh
     (input, took, at_end refl, stops.0, Appends-ended sink0.written sink1.written stops.0 stops.1, stops.2)
 Session-after start AtEnd Full how n source rest sink0 sink1 sink2 input w0 w1 short took at_end whole stops ends = absurd (whole refl)
 Session-after start AtRefusal Fault how n source rest sink0 sink1 sink2 input w0 w1 short took at_end whole stops ends =
-    ends_so start how SourceFault n source rest sink0 sink1 sink2 w0 w1 ends.0 ends.1 (input, took, short, unframeable (refusal Frame), stops.0, stops.1, stops.2)
+    ends_so start how SourceFault n source rest sink0 sink1 sink2 w0 w1 ends.0 ends.1 (input, took, short, unframeable (framing_refusal Frame), stops.0, stops.1, stops.2)
 Session-after start AtRefusal End how n source rest sink0 sink1 sink2 input w0 w1 short took at_end whole stops ends =
     Session-refused start how n source rest sink0 sink1 sink2 input w0 w1 short took (at_end refl) stops ends
 Session-after start AtRefusal Full how n source rest sink0 sink1 sink2 input w0 w1 short took at_end whole stops ends = absurd (whole refl)

@@ -6,7 +6,7 @@ use Rattle.std.specs.Str.{bytes_eq}
 use Rattle.std.proofs.lemmas.Slice.Eq.{bytes_eq-Decides}
 use Rattle.httparse.specs.declared.spans.HeaderSpan.{HeaderSpan}
 use Rattle.httparse.specs.Spans.{header_bytes, span_bytes}
-use Rattle.library_model.specs.Framing.{is_named, values_of}
+use Rattle.http_model.specs.Framing.{is_named, values_of}
 
 -- A header of the name adds its value.
 values_of-named : (name : List ℕ) (header : List ℕ × List ℕ) (headers : List (List ℕ × List ℕ)) → is_named name header.0 ≡ true

@@ -10,7 +10,7 @@ use Rattle.httparse.specs.Grammar.{RequestHead, ReadsRequest, print_request}
 use Rattle.httparse.specs.Spans.{IsRequestOf, header_bytes, name_and_value, span_bytes}
 use Rattle.httparse.proofs.GrammarLemmas.{request_unique}
 use Rattle.library_model.specs.Asked.{Asked, change, question}
-use Rattle.library_model.specs.Framing.{Begins, BeginsImport, BeginsQuestion, BeginNoRequest, IsHeadWithin, body_length, only_length, values_of}
+use Rattle.http_model.specs.Framing.{Begins, BeginsImport, BeginsQuestion, BeginNoRequest, IsHeadWithin, body_length, only_length, values_of}
 use Rattle.library_http.specs.Framed.{HasImport, BeginsNoImport, HasNoQuestionIn}
 
 -- an import of the file has this head, and what follows the head is the file and the rest

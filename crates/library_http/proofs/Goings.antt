@@ -1,9 +1,11 @@
 -- How ghost values go on over several calls: contents, written bytes and counts.
-use Rattle.std.proofs.Common.{◌≢◌, ◌≡◌, ℕ, ◌+◌, Option, None, Some, List, [], ◌++◌, arith}
+use Rattle.std.proofs.Common.{◌≢◌, ◌≡◌, ℕ, ◌+◌, Option, None, Some, List, [], ◌++◌, Result, Err, refl, sym, subst, arith}
 use Rattle.std.specs.Io.KnownBytes.{Appends}
 use Rattle.std.proofs.KnownBytes.{Appends-nil, Appends-trans}
 use Rattle.keeper_store.specs.Goes.{Goes}
-use Rattle.lib_base.specs.Writes.{AppendsPart}
+use Rattle.lib_base.specs.declared.outcomes.Outside.{Outside}
+use Rattle.lib_base.specs.declared.outcomes.Outside.TheVariants as outside
+use Rattle.lib_base.specs.Writes.{AppendsPart, SinkView, WritesAll}
 use Rattle.library_http.specs.World.{RoseBy}
 
 -- ---- contents
@@ -42,6 +44,16 @@ Appends-none a = Appends-nil a
 pub Appends-then-part : (a b c : Option (List ℕ)) (xs ys : List ℕ) → Appends a b xs → AppendsPart b c ys
     → (part : List ℕ) × (unwritten : List ℕ) × (ys ≡ part ++ unwritten) × (unwritten ≢ []) × Appends a c (xs ++ part)
 Appends-then-part a b c xs ys p q = (q.0, q.1, q.2, q.3, Appends-trans a b c xs q.0 p q.4)
+
+-- Want of memory before anything was written.
+pub WritesAll-none : {T : Type 0} (sink : SinkView) (bytes : List ℕ) (r : Result T Outside) → r ≡ Err outside.Memory → bytes ≢ []
+    → WritesAll sink sink bytes r
+WritesAll-none {T} sink bytes r is some =
+    subst (λ (o : Result T Outside). WritesAll sink sink bytes o) (sym is) (record {
+      whole = tt;
+      part = ([], bytes, refl, some, Appends-none sink.written);
+      faults = record { later = omega arith; cause = λ failed. absurd (cc failed) };
+    })
 
 -- ---- counts
 

@@ -9,16 +9,19 @@ use Rattle.lib_base.specs.Writes.{AppendsPart, SinkView}
 use Rattle.keeper_store.specs.Blobs.{Blobs}
 use Rattle.keeper_store.specs.declared.contents.Tables.{Tables}
 use Rattle.library_model.specs.declared.messages.Reply.{Reply}
-use Rattle.library_model.specs.declared.refusals.Refusal.TheVariants.{Frame, Size, Vault, Keeper}
+use Rattle.library_model.specs.declared.refusals.Refusal.TheVariants.{Vault, Keeper}
+use Rattle.http_model.specs.declared.refusals.FramingRefusal.TheVariants.{Frame, Size}
 use Rattle.library_model.specs.Asked.{Asked, IsQuestion}
-use Rattle.library_model.specs.Framing.{Begins, BeginNoRequest, EndsAs, RequestsOf, End, ended, unframeable, output, input_limit}
+use Rattle.http_model.specs.Framing.{Begins, BeginNoRequest, EndsAs, RequestsOf, End, ended, unframeable, output, input_limit}
 use Rattle.library_model.specs.Machine.{Answers, count_status}
 use Rattle.library_model.specs.Refusals.{status_of}
-use Rattle.library_model.specs.Replies.{refusal, spelled, spelled_all}
+use Rattle.http_model.specs.Refusals.{framing_refusal}
+use Rattle.http_model.specs.Spelling.{spelled, spelled_all}
 use Rattle.library_model.specs.Stands.{tables_of, HoldsFiles}
 use Rattle.library_model.specs.State.{State}
-use Rattle.library_model.proofs.Readings.{RequestsOf-unique, Begins-shorter}
-use Rattle.library_model.proofs.Runs.{BeginWith-push, Answers-push, spelled_all-push, count_status-push}
+use Rattle.http_model.proofs.Readings.{RequestsOf-unique, Begins-shorter}
+use Rattle.library_model.proofs.Runs.{Answers-push, count_status-push}
+use Rattle.http_model.proofs.Runs.{BeginWith-push, spelled_all-push}
 use Rattle.catalogue_core.specs.Kept.{Keeps}
 use Rattle.library_http.specs.declared.serving.Stop.{Stop}
 use Rattle.library_http.specs.declared.serving.Stop.TheVariants.{AtEnd, AtRefusal, AtSinkFault, AtMemory}
@@ -210,8 +213,8 @@ pub Progress-Stops-refusal : (start : State) (input rest : List ℕ) (n : ℕ) (
 Progress-Stops-refusal start input rest n sink0 sink1 w0 w1 short progress ends = (
   progress.replies,
   progress.written,
-  subst (λ (k : ℕ). Answered start input (unframeable (refusal Frame)) k progress.replies w0 w1) (sym progress.counted)
-      (Serves-Answered start input rest (unframeable (refusal Frame)) progress.replies w0 w1 short progress.serves
+  subst (λ (k : ℕ). Answered start input (unframeable (framing_refusal Frame)) k progress.replies w0 w1) (sym progress.counted)
+      (Serves-Answered start input rest (unframeable (framing_refusal Frame)) progress.replies w0 w1 short progress.serves
       (ends.0, ends.1, refl)),
 )
 
@@ -293,14 +296,14 @@ Progress-Stops start input rest n AtMemory sink0 sink1 sink2 w0 w1 w2 short prog
 
 -- An input that is too long has no requests, and ends by its refusal.
 pub Answered-too-long : (start : State) (input : List ℕ) (w : World) → Keeps w.library start
-    → input_limit < length input → Answered start input (unframeable (refusal Size)) 0 [] w w
+    → input_limit < length input → Answered start input (unframeable (framing_refusal Size)) 0 [] w w
 Answered-too-long start input w keeps long =
-    let reads : RequestsOf input [] (unframeable (refusal Size)) = inr (long, refl, refl) in
+    let reads : RequestsOf input [] (unframeable (framing_refusal Size)) = inr (long, refl, refl) in
     record {
       requests = [];
       state = start;
       reads = reads;
-      only = λ others other x. RequestsOf-unique input others [] other (unframeable (refusal Size)) x reads;
+      only = λ others other x. RequestsOf-unique input others [] other (unframeable (framing_refusal Size)) x reads;
       answers = refl;
       counted = refl;
       leads = Leads-same start w keeps;

@@ -1,6 +1,6 @@
 -- The head of a reply, piece by piece.
 use Rattle.std.proofs.Common.{◌≡◌, ℕ, List, [], ◌∷◌, ◌++◌, codes, append_assoc}
-use Rattle.library_model.specs.Replies.{line}
+use Rattle.http_model.specs.Spelling.{line}
 
 -- The pieces in a row are the lines, whatever they are.
 regroup : (version status space reason end type kind length size closing : List ℕ)

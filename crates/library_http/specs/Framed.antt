@@ -4,7 +4,7 @@ use Rattle.lib_base.specs.declared.files.Span.{Span}
 use Rattle.library_model.specs.declared.messages.Question.{Question}
 use Rattle.library_model.specs.declared.messages.Question.TheVariants as about
 use Rattle.library_model.specs.Asked.{Asked, question}
-use Rattle.library_model.specs.Framing.{Begins, BeginsImport, BeginNoRequest, has_slash, id_asked}
+use Rattle.http_model.specs.Framing.{Begins, BeginsImport, BeginNoRequest, has_slash, id_asked}
 use Rattle.library_http.specs.declared.framing.Framed.{Framed}
 use Rattle.library_http.specs.declared.framing.Framed.TheVariants.{Ended, Unframeable, Import}
 use Rattle.library_http.specs.declared.framing.Framed.TheVariants as framed

@@ -8,10 +8,13 @@ use Rattle.keeper_store.specs.Goes.{Goes}
 use Rattle.library_model.specs.declared.messages.Reply.{Reply}
 use Rattle.library_model.specs.declared.refusals.Refusal.TheVariants as cause
 use Rattle.library_model.specs.Asked.{Asked, IsQuestion}
-use Rattle.library_model.specs.Framing.{Begins, BeginWith, BeginNoRequest, RequestsOf, End, ended, unframeable, output, input_limit}
+use Rattle.http_model.specs.declared.refusals.FramingRefusal.TheVariants as framing
+use Rattle.http_model.specs.Framing.{Begins, BeginWith, BeginNoRequest, RequestsOf, End, ended, unframeable, output, input_limit}
 use Rattle.library_model.specs.Machine.{Verdict, Answer, Answers, AnswersBy, as_decided, without_memory, count_status}
 use Rattle.library_model.specs.Refusals.{status_of}
-use Rattle.library_model.specs.Replies.{spelled, spelled_all, refusal}
+use Rattle.library_model.specs.Replies.{refusal}
+use Rattle.http_model.specs.Refusals.{framing_refusal}
+use Rattle.http_model.specs.Spelling.{spelled, spelled_all}
 use Rattle.library_model.specs.Stands.{tables_of, HoldsFiles}
 use Rattle.library_model.specs.State.{State}
 use Rattle.catalogue_core.specs.Kept.{Keeps}
@@ -187,7 +190,7 @@ Stops start input AtEnd answered sink_before sink_now before now =
     (replies : List Reply) × Appends sink_before.written sink_now.written (spelled_all replies) × Answered start input ended answered replies before now
 Stops start input AtRefusal answered sink_before sink_now before now =
     (replies : List Reply) × Appends sink_before.written sink_now.written (spelled_all replies)
-    × Answered start input (unframeable (refusal cause.Frame)) answered replies before now
+    × Answered start input (unframeable (framing_refusal framing.Frame)) answered replies before now
 Stops start input AtSinkFault answered sink_before sink_now before now = BreaksOff start input answered sink_before sink_now before now
 Stops start input AtMemory answered sink_before sink_now before now = BreaksOff start input answered sink_before sink_now before now
 
@@ -208,8 +211,8 @@ EndsAfter AtEnd read.Fault how sink_before sink_now = (how ≡ SourceFault) × (
 EndsAfter AtEnd read.End how sink_before sink_now = (how ≡ Ended) × (sink_now ≡ sink_before)
 EndsAfter AtEnd read.Full how sink_before sink_now = (how ≡ Ended) × (sink_now ≡ sink_before)
 EndsAfter AtRefusal read.Fault how sink_before sink_now = (how ≡ SourceFault) × (sink_now ≡ sink_before)
-EndsAfter AtRefusal read.End how sink_before sink_now = EndsBy how (spelled true (refusal cause.Frame)) sink_before sink_now
-EndsAfter AtRefusal read.Full how sink_before sink_now = EndsBy how (spelled true (refusal cause.Frame)) sink_before sink_now
+EndsAfter AtRefusal read.End how sink_before sink_now = EndsBy how (spelled true (framing_refusal framing.Frame)) sink_before sink_now
+EndsAfter AtRefusal read.Full how sink_before sink_now = EndsBy how (spelled true (framing_refusal framing.Frame)) sink_before sink_now
 
 -- What a session does that ends so, by what its source and its sink told before and now.
 abbrev pub Session : State → How → ℕ → SourceView → SourceView → SinkView → SinkView → World → World → Type 0

@@ -2,7 +2,7 @@
 ghost use Rattle.std.specs.Prelude.{◌≡◌, ◌≤◌, false};
 ghost use Rattle.lib_base.specs.Writes.{WritesAll};
 ghost use Rattle.library_model.specs.Asked.{change};
-ghost use Rattle.library_model.specs.Replies.{spelled};
+ghost use Rattle.http_model.specs.Spelling.{spelled};
 ghost use Rattle.library_model.specs.State.{State};
 ghost use Rattle.catalogue_core.specs.Kept.{Keeps};
 ghost use Rattle.measure_pool.specs.declared.plans.TheConstants.{MOST_WORKERS};

@@ -3,7 +3,7 @@ ghost use Rattle.std.specs.Prelude.{◌≡◌, ◌≢◌, ◌≤◌, ◌↔◌, 
 ghost use Rattle.std.specs.Str.Parse.{digits_value};
 ghost use Rattle.httparse.specs.Grammar.{RequestHead, ReadsRequest, print_request};
 ghost use Rattle.httparse.specs.Spans.{IsRequestWithin, IsRequestOf, IsHeaderWithin, IsWithin, header_bytes, span_bytes};
-ghost use Rattle.library_model.specs.Framing.{id_asked, length_written, only_length, values_of};
+ghost use Rattle.http_model.specs.Framing.{id_asked, length_written, only_length, values_of};
 ghost use Rattle.library_http.specs.Fields.{IsFieldValue, WritesNumber};
 ghost use Rattle.library_http.specs.Framed.{FramedAs, HasImport, BeginsNoImport, IsQuestionIn, HasNoQuestionIn};
 

@@ -3,7 +3,7 @@ ghost use Rattle.std.specs.Prelude.{◌≡◌, ◌≤◌, ◌<◌, ◌⊎◌, le
 ghost use Rattle.lib_base.specs.Faults.{Rose, CountsFault};
 ghost use Rattle.library_model.specs.Asked as asked;
 ghost use Rattle.library_model.specs.Asked.{change};
-ghost use Rattle.library_model.specs.Framing.{input_limit};
+ghost use Rattle.http_model.specs.Framing.{input_limit};
 ghost use Rattle.library_model.specs.State.{State};
 ghost use Rattle.catalogue_core.specs.Kept.{Keeps};
 ghost use Rattle.measure_pool.specs.declared.plans.TheConstants.{MOST_WORKERS};
@@ -13,8 +13,8 @@ ghost use Rattle.library_http.specs.World.{World, KeepsFaults, world};
 
 use crate::answering::{answer_import, write_given};
 use crate::framing::{Framed, frame};
-use crate::spelling::{frame_reply, size_reply};
 use catalogue_core::{Library, ask};
+use http_model::FramingRefusal;
 use keeper_store::{Keeper, Vault};
 use lib_base::{Outside, ReadEnd, Sink, Source, Steps, read_up_to, write_all};
 use library_model::{Command, Question};
@@ -111,7 +111,7 @@ pub fn session<R: Threads + Sync, S: Source, K: Sink, D: Keeper, V: Vault>(
     };
     if taken.end == ReadEnd::Full {
         return SessionEnd {
-            how: end_by(size_reply(), sink),
+            how: end_by(FramingRefusal::Size.text(), sink),
             answered: 0,
         };
     }
@@ -146,7 +146,7 @@ fn end_after<K: Sink>(stop: Stop, end: ReadEnd, sink: &mut K) -> How
         (Stop::AtMemory, _) => How::Memory,
         (_, ReadEnd::Fault) => How::SourceFault,
         (Stop::AtEnd, _) => How::Ended,
-        (Stop::AtRefusal, _) => end_by(frame_reply(), sink),
+        (Stop::AtRefusal, _) => end_by(FramingRefusal::Frame.text(), sink),
     }
 }
 

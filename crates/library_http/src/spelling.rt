@@ -1,7 +1,8 @@
 //! Replies as bytes.
-ghost use Rattle.std.specs.Prelude.{◌≡◌, IfOk, false, true, string_bytes};
-ghost use Rattle.library_model.specs.Replies as replies;
-ghost use Rattle.library_model.specs.Replies.{refusal, spelled, spelled_head};
+ghost use Rattle.std.specs.Prelude.{◌≡◌, IfOk, false, string_bytes};
+ghost use Rattle.library_model.specs.Replies.{refusal};
+ghost use Rattle.http_model.specs.Spelling as spelling;
+ghost use Rattle.http_model.specs.Spelling.{spelled, spelled_head};
 ghost use Rattle.library_model.specs.declared.refusals.Refusal.TheVariants as cause;
 
 use lib_base::Memory;
@@ -11,14 +12,6 @@ use std::alloc::Global;
 /// The reply to want of memory, which takes none itself.
 const MEMORY_REPLY: &[u8] =
     b"HTTP/1.1 503 Service Unavailable\r\nContent-Type: application/json\r\nContent-Length: 18\r\n\r\n{\"error\":\"memory\"}";
-
-/// The refusal of what no request begins, after which the connection closes.
-const FRAME_REPLY: &[u8] =
-    b"HTTP/1.1 400 Bad Request\r\nContent-Type: application/json\r\nContent-Length: 17\r\nConnection: close\r\n\r\n{\"error\":\"frame\"}";
-
-/// The refusal of an input that is too long, after which the connection closes.
-const SIZE_REPLY: &[u8] =
-    b"HTTP/1.1 413 Content Too Large\r\nContent-Type: application/json\r\nContent-Length: 16\r\nConnection: close\r\n\r\n{\"error\":\"size\"}";
 
 /// The bytes of a reply, after which the connection closes or not.
 pub fn spell(alloc: Global, reply: &Reply, closes: bool) -> Result<Vec<u8>, Memory>
@@ -34,20 +27,6 @@ pub fn memory_reply() -> &'static [u8]
     ensures { result.now ≡ spelled false (refusal cause.Memory) }
 {
     MEMORY_REPLY
-}
-
-/// The bytes of the refusal of what no request begins. They take no memory.
-pub fn frame_reply() -> &'static [u8]
-    ensures { result.now ≡ spelled true (refusal cause.Frame) }
-{
-    FRAME_REPLY
-}
-
-/// The bytes of the refusal of an input that is too long. They take no memory.
-pub fn size_reply() -> &'static [u8]
-    ensures { result.now ≡ spelled true (refusal cause.Size) }
-{
-    SIZE_REPLY
 }
 
 /// The lines of a reply up to its body.
@@ -67,7 +46,7 @@ fn head(alloc: Global, reply: &Reply, closes: bool) -> Result<String, Memory>
 
 /// The reason phrase of a status (RFC 9110 section 15).
 fn reason(status: u16) -> &'static str
-    ensures { result.now ≡ replies.reason status }
+    ensures { result.now ≡ spelling.reason status }
 {
     match status {
         200 => "OK",
@@ -75,6 +54,7 @@ fn reason(status: u16) -> &'static str
         400 => "Bad Request",
         404 => "Not Found",
         409 => "Conflict",
+        411 => "Length Required",
         413 => "Content Too Large",
         422 => "Unprocessable Content",
         502 => "Bad Gateway",
@@ -86,7 +66,7 @@ fn reason(status: u16) -> &'static str
 
 /// The media type of a body.
 fn media_type(kind: BodyKind) -> &'static str
-    ensures { result.now ≡ replies.media_type kind }
+    ensures { result.now ≡ spelling.media_type kind }
 {
     match kind {
         BodyKind::Json => "application/json",
@@ -98,7 +78,7 @@ fn media_type(kind: BodyKind) -> &'static str
 
 /// The header line of a reply after which the connection closes.
 fn closing(closes: bool) -> &'static str
-    ensures { result.now ≡ replies.closing closes }
+    ensures { result.now ≡ spelling.closing closes }
 {
     if closes { "Connection: close\r\n" } else { "" }
 }

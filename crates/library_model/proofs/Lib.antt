@@ -2,5 +2,5 @@ pub mod Runs
 pub mod WorkedNames
 pub mod Imports
 pub mod Measuring
-pub mod Readings
+pub mod Verdicts
 pub mod Rows

@@ -3,19 +3,8 @@ use Rattle.std.proofs.Common.{◌≡◌, ℕ, ◌+◌, List, [], ◌∷◌, ◌+
 use Rattle.std.specs.Prelude.{◌==◌, if◌then◌else◌}
 use Rattle.library_model.specs.declared.messages.Reply.{Reply}
 use Rattle.library_model.specs.Asked.{Asked}
-use Rattle.library_model.specs.Framing.{Begins, BeginWith}
 use Rattle.library_model.specs.Machine.{Answer, Answers, count_status}
-use Rattle.library_model.specs.Replies.{spelled, spelled_all}
 use Rattle.library_model.specs.State.{State}
-use Rattle.std.specs.Prelude.{false}
-
--- Requests, and then one more.
-pub BeginWith-push : (bytes : List ℕ) (requests : List Asked) (mid rest : List ℕ) (request : Asked)
-    → BeginWith bytes requests mid → Begins mid request rest → BeginWith bytes (requests ++ request ∷ []) rest
-BeginWith-push bytes [] mid rest request begin next =
-    (rest, subst (λ (b : List ℕ). Begins b request rest) (sym begin) next, refl)
-BeginWith-push bytes (first ∷ requests) mid rest request begin next =
-    (begin.0, begin.1, BeginWith-push begin.0 requests mid rest request begin.2 next)
 
 -- Answers, and then one more.
 pub Answers-push : (s mid last : State) (requests : List Asked) (replies : List Reply) (request : Asked)
@@ -27,14 +16,6 @@ Answers-push s mid last (first ∷ requests) (said ∷ replies) request reply an
     (answers.0, answers.1, Answers-push answers.0 mid last requests replies request reply answers.2 next)
 Answers-push s mid last [] (said ∷ replies) request reply answers next = absurd answers
 Answers-push s mid last (first ∷ requests) [] request reply answers next = absurd answers
-
--- The bytes of one more reply follow those of the replies before it.
-pub spelled_all-push : (replies : List Reply) (reply : Reply)
-    → spelled_all (replies ++ reply ∷ []) ≡ spelled_all replies ++ spelled false reply
-spelled_all-push [] reply = simp append-nil
-spelled_all-push (said ∷ replies) reply =
-    ap (λ bs. spelled false said ++ bs) (spelled_all-push replies reply)
-    ∙ sym (append_assoc (spelled false said) (spelled_all replies) (spelled false reply))
 
 -- One more reply counts where it has the status.
 pub count_status-push : (status : ℕ) (replies : List Reply) (reply : Reply)

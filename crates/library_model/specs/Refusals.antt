@@ -1,13 +1,11 @@
 -- What each refusal replies (RFC 9110 section 15).
 use Rattle.std.specs.Prelude.{ℕ, List}
 use Rattle.library_model.specs.declared.refusals.Refusal.{Refusal}
-use Rattle.library_model.specs.declared.refusals.Refusal.TheVariants.{Frame, Size, NoRecording, Format, Ids, Vault, Keeper, Memory}
-use Rattle.library_model.specs.declared.refusals.TheConstants.{FRAME, SIZE, NO_RECORDING, FORMAT, IDS, VAULT, KEEPER, MEMORY}
+use Rattle.library_model.specs.declared.refusals.Refusal.TheVariants.{NoRecording, Format, Ids, Vault, Keeper, Memory}
+use Rattle.library_model.specs.declared.refusals.TheConstants.{NO_RECORDING, FORMAT, IDS, VAULT, KEEPER, MEMORY}
 
 -- the status and the word of a refusal, from the one table of them
 abbrev pub row_of : Refusal → ℕ × record { now : List ℕ }
-row_of Frame = FRAME
-row_of Size = SIZE
 row_of NoRecording = NO_RECORDING
 row_of Format = FORMAT
 row_of Ids = IDS

@@ -1,62 +1,12 @@
--- Replies, and the bytes that spell them (RFC 9112, RFC 8259).
-use Rattle.std.specs.Prelude.{ℕ, Bool, true, false, List, [], ◌∷◌, ◌++◌, ◌==◌, length, codes, decimal, if◌then◌else◌}
+-- Replies (RFC 8259).
+use Rattle.std.specs.Prelude.{ℕ, List, ◌++◌, codes, decimal}
 use Rattle.lib_base.specs.declared.outcomes.Rule.{Rule}
 use Rattle.lib_base.specs.Rules.{rule_text}
-use Rattle.library_model.specs.declared.messages.BodyKind.{BodyKind}
-use Rattle.library_model.specs.declared.messages.BodyKind.TheVariants.{Json, Csv, Wave, Flac}
+use Rattle.library_model.specs.declared.messages.BodyKind.TheVariants.{Json}
 use Rattle.library_model.specs.declared.messages.Reply.{Reply}
 use Rattle.library_model.specs.declared.refusals.Refusal.{Refusal}
 use Rattle.library_model.specs.declared.refusals.Refusal.TheVariants.{Format}
 use Rattle.library_model.specs.Refusals.{status_of, word_of}
-
--- a line of that text
-abbrev pub line : List ℕ → List ℕ
-line text = text ++ 13 ∷ 10 ∷ []
-
--- the reason phrase of a status, empty for those that no reply has (RFC 9110 section 15)
-abbrev pub reason : ℕ → List ℕ
-reason status =
-    if status == 200 then codes "OK"
-    else if status == 201 then codes "Created"
-    else if status == 400 then codes "Bad Request"
-    else if status == 404 then codes "Not Found"
-    else if status == 409 then codes "Conflict"
-    else if status == 413 then codes "Content Too Large"
-    else if status == 422 then codes "Unprocessable Content"
-    else if status == 502 then codes "Bad Gateway"
-    else if status == 503 then codes "Service Unavailable"
-    else if status == 504 then codes "Gateway Timeout"
-    else []
-
--- the media type of a body
-abbrev pub media_type : BodyKind → List ℕ
-media_type Json = codes "application/json"
-media_type Csv = codes "text/csv"
-media_type Wave = codes "audio/wav"
-media_type Flac = codes "audio/flac"
-
--- says that the connection closes after this reply, where it does
-abbrev pub closing : Bool → List ℕ
-closing true = line (codes "Connection: close")
-closing false = []
-
--- the lines of a reply up to its body
-abbrev pub spelled_head : Bool → Reply → List ℕ
-spelled_head closes reply =
-    line (codes "HTTP/1.1 " ++ decimal reply.status ++ codes " " ++ reason reply.status)
-    ++ line (codes "Content-Type: " ++ media_type reply.kind)
-    ++ line (codes "Content-Length: " ++ decimal (length reply.body))
-    ++ closing closes
-    ++ line []
-
--- the bytes of a reply
-abbrev pub spelled : Bool → Reply → List ℕ
-spelled closes reply = spelled_head closes reply ++ reply.body
-
--- the bytes of replies, one after another
-abbrev pub spelled_all : List Reply → List ℕ
-spelled_all [] = []
-spelled_all (reply ∷ replies) = spelled false reply ++ spelled_all replies
 
 -- a reply of JSON
 abbrev pub json : ℕ → List ℕ → Reply

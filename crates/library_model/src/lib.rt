@@ -1,5 +1,6 @@
 //! What a reader must believe of the library as a machine: its states, its requests, the step that
-//! answers one, the bytes that ask and the bytes that reply, and what tables and blobs stand for.
+//! answers one, the bodies of its replies, and what tables and blobs stand for. How requests and
+//! replies are spelled is no part of it.
 //!
 //! The definitions stand in `specs/`, and hold no algorithm. Here stand the plain types that
 //! definitions and code share, and the table of refusals, which both read.

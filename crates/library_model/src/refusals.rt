@@ -5,10 +5,6 @@ ghost use Rattle.library_model.specs.Refusals.{status_of, word_of};
 /// Why a request is refused.
 #[derive(Clone, Copy, Debug, PartialEq, Eq)]
 pub enum Refusal {
-    /// No request begins the bytes.
-    Frame,
-    /// The input is too long.
-    Size,
     /// No recording has the id that is asked for.
     NoRecording,
     /// The file breaks a rule at a place, which the reply tells too.
@@ -25,10 +21,6 @@ pub enum Refusal {
 
 // The status of each refusal (RFC 9110 section 15), and the word that names it in the reply. The
 // definitions cite these constants, so each status and each word stands here alone.
-const FRAME: (u16, &str) = (400, "frame");
-
-const SIZE: (u16, &str) = (413, "size");
-
 const NO_RECORDING: (u16, &str) = (404, "no-recording");
 
 const FORMAT: (u16, &str) = (422, "format");
@@ -61,8 +53,6 @@ impl Refusal {
         ensures word { result.1.now ≡ word_of self }
     {
         match self {
-            Refusal::Frame => FRAME,
-            Refusal::Size => SIZE,
             Refusal::NoRecording => NO_RECORDING,
             Refusal::Format => FORMAT,
             Refusal::Ids => IDS,

@@ -8,11 +8,11 @@ use Rattle.keeper_store.specs.Goes.{Goes}
 use Rattle.keeper_store.specs.declared.contents.Tables.{Tables}
 use Rattle.library_model.specs.declared.messages.Reply.{Reply}
 use Rattle.library_model.specs.Asked.{Asked}
-use Rattle.library_model.specs.Framing.{End, ended, unframeable, RequestsOf, input_limit}
-use Rattle.library_model.specs.Replies as replies
-use Rattle.library_model.specs.declared.refusals.Refusal.TheVariants.{Size}
+use Rattle.http_model.specs.Framing.{End, ended, unframeable, RequestsOf, input_limit}
+use Rattle.http_model.specs.declared.refusals.FramingRefusal.TheVariants.{Size}
+use Rattle.http_model.specs.Refusals.{framing_refusal}
 use Rattle.library_model.specs.State.{empty_state}
-use Rattle.library_model.proofs.Readings.{RequestsOf-unique}
+use Rattle.http_model.proofs.Readings.{RequestsOf-unique}
 use Rattle.catalogue_core.specs.declared.libraries.BadRow.{BadRow}
 use Rattle.catalogue_core.specs.declared.libraries.Library.{Library}
 use Rattle.catalogue_core.specs.declared.libraries.OpenRefusal.{OpenRefusal}
@@ -117,7 +117,7 @@ unframeable_end input left taken requests reply took whole (inl reads) = (
 unframeable_end input left taken requests reply took whole (inr long) =
     let most = taken_most input left taken took in
     let longer : input_limit < length input = omega (arith, most, long.0) in
-    ([], replies.refusal Size, inr (longer, refl, refl))
+    ([], framing_refusal Size, inr (longer, refl, refl))
 
 -- what a session that ended so says of the end of the input
 session_end : (how : How) (answered : ℕ) (input : List ℕ) (source0 source1 : SourceView) (sink0 sink1 : SinkView) (w0 w1 : World)

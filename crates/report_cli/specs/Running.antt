@@ -10,7 +10,7 @@ use Rattle.keeper_store.specs.Keepers.{KeeperView}
 use Rattle.keeper_store.specs.Vaults.{VaultView}
 use Rattle.keeper_store.specs.declared.contents.Tables.{Tables}
 use Rattle.library_model.specs.Asked.{Asked}
-use Rattle.library_model.specs.Framing.{End, ended, unframeable, RequestsOf}
+use Rattle.http_model.specs.Framing.{End, ended, unframeable, RequestsOf}
 use Rattle.library_model.specs.State.{empty_state}
 use Rattle.catalogue_core.specs.declared.libraries.BadRow.{BadRow}
 use Rattle.catalogue_core.specs.declared.libraries.Library.{Library}

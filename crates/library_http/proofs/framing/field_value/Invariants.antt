@@ -1,6 +1,6 @@
 use Rattle.std.proofs.Common.{◌≡◌, ◌∷◌, List, ℕ, drop, map, MatchOption}
 use Rattle.httparse.specs.Spans.{header_bytes}
-use Rattle.library_model.specs.Framing.{values_of}
+use Rattle.http_model.specs.Framing.{values_of}
 use Rattle.library_http.proofs.framing.field_value.Given as goal
 
 -- what was found, and then the values of the headers that are left

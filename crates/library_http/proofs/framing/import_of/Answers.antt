@@ -1,7 +1,7 @@
 use Rattle.std.proofs.Common.{◌≡◌, ℕ, List, Option, Some, None, length, take, map, codes, true, sym, ap, ◌∙◌, arith}
 use Rattle.httparse.specs.Spans.{header_bytes}
 use Rattle.httparse.specs.declared.spans.HeaderSpan.{HeaderSpan}
-use Rattle.library_model.specs.Framing.{only_length, values_of}
+use Rattle.http_model.specs.Framing.{only_length, values_of}
 use Rattle.library_http.proofs.FramingLemmas.{IsImportHead-found, file_fits, HasImport-found}
 use Rattle.library_http.proofs.framing.import_of.Goals as goal
 

@@ -1,6 +1,6 @@
 use Rattle.std.proofs.Common.{◌≡◌, ◌≢◌, ◌≤◌, ◌+◌, List, ℕ, length, rules, arith, subst}
 use Rattle.lib_base.specs.declared.sources.ReadEnd.TheVariants.{Full}
-use Rattle.library_model.specs.Framing.{input_limit}
+use Rattle.http_model.specs.Framing.{input_limit}
 use Rattle.library_http.specs.Sessions.{EndsBy, Stops}
 use Rattle.library_http.specs.World.{world}
 use Rattle.library_http.proofs.Ending.{Session-unread, Session-too-long, Session-after}
@@ -17,7 +17,7 @@ returns-then-eq-clause-session g c = λ start keeps.
     let long : length c.in-Ok.taken.bytes ≡ input_limit + 1 = omega (arith, read) in
     let ends : EndsBy c.end_by.result _ (g.K.Sink.shown c.args.sink.now) (g.K.Sink.shown c.end_by.new.sink) =
     subst (λ (text : List ℕ). EndsBy c.end_by.result text (g.K.Sink.shown c.args.sink.now) (g.K.Sink.shown c.end_by.new.sink))
-    c.size_reply.ensures c.end_by.ensures.ends in
+    c.text.ensures c.end_by.ensures.ends in
     Session-too-long start c.end_by.result (g.S.Source.shown c.args.source.now) (g.S.Source.shown c.read_up_to.new.source)
     (g.K.Sink.shown c.args.sink.now) (g.K.Sink.shown c.end_by.new.sink) c.in-Ok.taken.bytes
     (world c.args.library.now (g.D.Keeper.shown c.args.keeper.now) (g.V.Vault.shown c.args.vault.now))

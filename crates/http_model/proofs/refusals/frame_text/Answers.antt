@@ -1,6 +1,6 @@
 use Rattle.std.proofs.Common.{refl}
 use Rattle.std.specs.Fmt.{digits}
-use Rattle.library_http.proofs.spelling.frame_reply.Goals as goal
+use Rattle.http_model.proofs.refusals.frame_text.Goals as goal
 
 pub returns : goal.returns
 unfolding digits

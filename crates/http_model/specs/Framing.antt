@@ -9,10 +9,11 @@ use Rattle.httparse.specs.Spans.{name_and_value}
 use Rattle.library_model.specs.declared.messages.Command.TheVariants.{Import}
 use Rattle.library_model.specs.declared.messages.Question.TheVariants as about
 use Rattle.library_model.specs.declared.messages.Reply.{Reply}
-use Rattle.library_model.specs.declared.refusals.Refusal.TheVariants.{Frame, Size}
 use Rattle.library_model.specs.Asked.{Asked, change, question}
-use Rattle.library_model.specs.Replies.{refusal, spelled, spelled_all}
 use Rattle.library_model.specs.State.{numbers_end}
+use Rattle.http_model.specs.declared.refusals.FramingRefusal.TheVariants.{Frame, Size}
+use Rattle.http_model.specs.Refusals.{framing_refusal}
+use Rattle.http_model.specs.Spelling.{spelled, spelled_all}
 
 -- the greatest length of an input, in bytes
 abbrev pub input_limit : ℕ
@@ -113,10 +114,10 @@ output replies end = spelled_all replies ++ ending end
 -- what is left after the requests ends them so
 abbrev pub EndsAs : List ℕ → End → Type 0
 EndsAs rest ended = rest ≡ []
-EndsAs rest (unframeable reply) = (rest ≢ []) × BeginNoRequest rest × (reply ≡ refusal Frame)
+EndsAs rest (unframeable reply) = (rest ≢ []) × BeginNoRequest rest × (reply ≡ framing_refusal Frame)
 
 -- The input is these requests, and ends so. An input past the limit is refused alone.
 abbrev pub RequestsOf : List ℕ → List Asked → End → Type 0
 RequestsOf input requests end =
     ((length input ≤ input_limit) × ((rest : List ℕ) × BeginWith input requests rest × EndsAs rest end))
-    ⊎ ((input_limit < length input) × (requests ≡ []) × (end ≡ unframeable (refusal Size)))
+    ⊎ ((input_limit < length input) × (requests ≡ []) × (end ≡ unframeable (framing_refusal Size)))

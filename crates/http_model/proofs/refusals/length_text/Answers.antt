@@ -1,6 +1,6 @@
 use Rattle.std.proofs.Common.{refl}
 use Rattle.std.specs.Fmt.{digits}
-use Rattle.library_http.proofs.spelling.size_reply.Goals as goal
+use Rattle.http_model.proofs.refusals.length_text.Goals as goal
 
 pub returns : goal.returns
 unfolding digits

@@ -1,0 +1,69 @@
+-- Worked rows: the bytes of replies.
+use Rattle.std.proofs.Common.{◌≡◌, true, false, ◌∷◌, ◌++◌, codes, refl}
+use Rattle.std.specs.Fmt.{digits}
+use Rattle.serde_json.proofs.OnLiterals.{serde_json_on_literals}
+use Rattle.lib_base.specs.declared.outcomes.Rule.TheVariants.{V}
+use Rattle.sound_model.specs.Texts.{millionths}
+use Rattle.library_model.specs.declared.refusals.Refusal.TheVariants.{NoRecording, Memory}
+use Rattle.library_model.specs.Machine.{recording_reply}
+use Rattle.library_model.specs.Replies.{format_refusal, refusal}
+use Rattle.library_model.proofs.Rows.{row_recording}
+use Rattle.http_model.specs.declared.refusals.FramingRefusal.TheVariants.{Frame, Length, Size}
+use Rattle.http_model.specs.Refusals.{framing_refusal}
+use Rattle.http_model.specs.Spelling.{spelled}
+
+-- The reply to the import of a recording.
+pub spelled-recording_reply : spelled false (recording_reply 201 row_recording)
+    ≡ codes "HTTP/1.1 201 Created" ++ 13 ∷ 10 ∷ codes "Content-Type: application/json"
+    ++ 13 ∷ 10 ∷ codes "Content-Length: 149"
+    ++ 13 ∷ 10 ∷ 13 ∷ 10 ∷ codes "{\"channels\":1,\"depth\":16,\"frames\":4,\"gain\":null,\"id\":1,\"loudness\":null,\"momentary\":null,\"peak\":\"0.537233\",\"range\":null,\"short\":null,\"true_peak\":-540}"
+unfolding serde_json_on_literals digits millionths
+spelled-recording_reply = refl
+
+-- The refusal of a file whose size field is wrong.
+pub spelled-format_refusal : spelled false (format_refusal (V 3) 4)
+    ≡ codes "HTTP/1.1 422 Unprocessable Content" ++ 13 ∷ 10 ∷ codes "Content-Type: application/json"
+    ++ 13 ∷ 10 ∷ codes "Content-Length: 40"
+    ++ 13 ∷ 10 ∷ 13 ∷ 10 ∷ codes "{\"error\":\"format\",\"place\":4,\"rule\":\"V3\"}"
+unfolding digits
+spelled-format_refusal = refl
+
+-- The refusal of bytes that begin no request, after which the connection closes.
+pub spelled-frame : spelled true (framing_refusal Frame)
+    ≡ codes "HTTP/1.1 400 Bad Request" ++ 13 ∷ 10 ∷ codes "Content-Type: application/json"
+    ++ 13 ∷ 10 ∷ codes "Content-Length: 17" ++ 13 ∷ 10 ∷ codes "Connection: close"
+    ++ 13 ∷ 10 ∷ 13 ∷ 10 ∷ codes "{\"error\":\"frame\"}"
+unfolding digits
+spelled-frame = refl
+
+-- The refusal of a request that gives no length, after which the connection closes.
+pub spelled-length : spelled true (framing_refusal Length)
+    ≡ codes "HTTP/1.1 411 Length Required" ++ 13 ∷ 10 ∷ codes "Content-Type: application/json"
+    ++ 13 ∷ 10 ∷ codes "Content-Length: 18" ++ 13 ∷ 10 ∷ codes "Connection: close"
+    ++ 13 ∷ 10 ∷ 13 ∷ 10 ∷ codes "{\"error\":\"length\"}"
+unfolding digits
+spelled-length = refl
+
+-- The refusal of an input that is too long, after which the connection closes.
+pub spelled-size : spelled true (framing_refusal Size)
+    ≡ codes "HTTP/1.1 413 Content Too Large" ++ 13 ∷ 10 ∷ codes "Content-Type: application/json"
+    ++ 13 ∷ 10 ∷ codes "Content-Length: 16" ++ 13 ∷ 10 ∷ codes "Connection: close"
+    ++ 13 ∷ 10 ∷ 13 ∷ 10 ∷ codes "{\"error\":\"size\"}"
+unfolding digits
+spelled-size = refl
+
+-- The refusal of a question after a recording that is not there.
+pub spelled-no_recording : spelled false (refusal NoRecording)
+    ≡ codes "HTTP/1.1 404 Not Found" ++ 13 ∷ 10 ∷ codes "Content-Type: application/json"
+    ++ 13 ∷ 10 ∷ codes "Content-Length: 24"
+    ++ 13 ∷ 10 ∷ 13 ∷ 10 ∷ codes "{\"error\":\"no-recording\"}"
+unfolding digits
+spelled-no_recording = refl
+
+-- The refusal for want of memory.
+pub spelled-memory : spelled false (refusal Memory)
+    ≡ codes "HTTP/1.1 503 Service Unavailable" ++ 13 ∷ 10 ∷ codes "Content-Type: application/json"
+    ++ 13 ∷ 10 ∷ codes "Content-Length: 18"
+    ++ 13 ∷ 10 ∷ 13 ∷ 10 ∷ codes "{\"error\":\"memory\"}"
+unfolding digits
+spelled-memory = refl
