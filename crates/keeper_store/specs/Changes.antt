@@ -2,6 +2,7 @@
 use Rattle.std.specs.Prelude.{List, [], ◌∷◌}
 use Rattle.keeper_store.specs.declared.contents.Tables.{Tables}
 use Rattle.keeper_store.specs.declared.contents.Change.{Change}
+use Rattle.keeper_store.specs.declared.contents.NextNumbers.{NextNumbers}
 use Rattle.keeper_store.specs.declared.contents.Change.TheVariants.{Counters, PutRecording, PutSegments}
 use Rattle.keeper_store.specs.Puts.{put, recording_less, segments_less}
 
@@ -27,3 +28,7 @@ changed (PutSegments row) t = record t { segments = put segments_less row t.segm
 abbrev pub changed_all : List Change → Tables → Tables
 changed_all [] t = t
 changed_all (c ∷ cs) t = changed_all cs (changed c t)
+
+-- the numbers that come next
+abbrev pub next_numbers : Tables → NextNumbers
+next_numbers t = record { album = t.next_album; recording = t.next_recording; take = t.next_take }

@@ -2,6 +2,7 @@ pub mod Blobs
 pub mod Changes
 pub mod EnergyBytes
 pub mod Goes
+pub mod Held
 pub mod Keepers
 pub mod Memory
 pub mod Orders

@@ -55,6 +55,14 @@ impl Clone for Tables {
     }
 }
 
+/// The numbers that the next album, recording and take get.
+#[derive(Clone, Copy, Debug, PartialEq, Eq)]
+pub struct NextNumbers {
+    pub album: u32,
+    pub recording: u32,
+    pub take: u32,
+}
+
 /// One change of the tables. A put replaces the row of its id or take.
 #[derive(Debug, Drop)]
 pub enum Change {

@@ -3,7 +3,7 @@ ghost use Rattle.std.specs.Prelude.{◌≡◌, ◌↔◌, Some, IsErrOf, IfOk, O
 ghost use Rattle.keeper_store.specs.Keepers.{Loads, Applies};
 ghost use Rattle.lib_base.specs.Plan.{CountsCall, IsDue};
 
-use crate::mem_tables::MemTables;
+use crate::row_tables::RowTables;
 use crate::{Batch, Tables};
 use lib_base::{FaultPlan, Memory, Outside};
 
@@ -26,7 +26,7 @@ pub trait Keeper {
 /// A keeper in memory, which tells its tables.
 #[derive(Debug, Drop)]
 pub struct MemKeeper {
-    tables: MemTables,
+    tables: RowTables,
     plan: FaultPlan,
     applies: u64,
 }
@@ -42,7 +42,7 @@ impl MemKeeper {
         ensures plan { keeper_plan result ≡ record { failing = failing.items; calls = 0; faults = 0 } }
     {
         MemKeeper {
-            tables: MemTables::of(tables),
+            tables: RowTables::of(tables),
             plan: FaultPlan::new(failing),
             applies: 0,
         }
@@ -57,7 +57,8 @@ impl MemKeeper {
 }
 
 impl Keeper for MemKeeper {
-    ghost use Rattle.keeper_store.specs.Memory.{held_tables, keeper_plan};
+    ghost use Rattle.keeper_store.specs.Held.{held_tables};
+    ghost use Rattle.keeper_store.specs.Memory.{keeper_plan};
 
     ghost shown = { λ k. record { tables = Some (held_tables k.tables); faults = k.plan.faults; applies = k.applies } };
 

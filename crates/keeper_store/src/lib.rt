@@ -8,16 +8,17 @@
 mod contents;
 mod energy_bytes;
 mod keepers;
-mod mem_tables;
 mod places;
+mod row_tables;
 mod row_types;
 #[cfg(test)]
 mod tests;
 mod vaults;
 
-pub use contents::{Batch, Change, Changes, Tables};
+pub use contents::{Batch, Change, Changes, NextNumbers, Tables};
 pub use energy_bytes::{RowFault, bytes_of, energies_of};
 pub use keepers::{Keeper, MemKeeper};
 pub use places::{Ranked, put_row};
+pub use row_tables::RowTables;
 pub use row_types::{AlbumRow, RecordingRow, ReplyRow, Rows, SegmentRow};
 pub use vaults::{MemVault, Vault};

@@ -1,19 +1,21 @@
-//! Tables in memory, which are changed in place.
-ghost use Rattle.std.specs.Prelude.{◌≡◌, ◌+◌, ℕ, IfOk, OnOk, length};
-ghost use Rattle.keeper_store.specs.Changes.{changed, changed_all};
+//! Tables that are changed in place.
+ghost use Rattle.std.specs.Prelude.{◌≡◌, ◌↔◌, ◌+◌, ℕ, IfOk, OnOk, length};
+ghost use Rattle.keeper_store.specs.Changes.{changed, changed_all, next_numbers};
 ghost use Rattle.keeper_store.specs.Keepers.{MakesChanges};
-ghost use Rattle.keeper_store.specs.Puts.{recording_less, segments_less, AscendsWhere, AscendsWhere-prop};
+ghost use Rattle.keeper_store.specs.Puts.{recording_less, segments_less, Ascends, AscendsWhere, AscendsWhere-prop};
 
 use crate::places::{ascend, put_tested};
-use crate::{AlbumRow, Batch, Change, RecordingRow, ReplyRow, Rows, SegmentRow, Tables};
+use crate::{
+    AlbumRow, Batch, Change, NextNumbers, RecordingRow, ReplyRow, Rows, SegmentRow, Tables,
+};
 use lib_base::Memory;
 
-/// Tables in memory, of which those that changes put rows into can be given room beforehand.
+/// Tables that are changed in place, in room that is made beforehand.
 ///
 /// They may be any tables. Where the rows ascend, which is tested once, they go on ascending, and a
 /// row finds its place by halving.
 #[derive(Debug, Drop)]
-pub(crate) struct MemTables {
+pub struct RowTables {
     next_album: u32,
     next_recording: u32,
     next_take: u32,
@@ -26,17 +28,18 @@ pub(crate) struct MemTables {
     ghost segments_ascend: { AscendsWhere ascending segments_less segments.items } by { AscendsWhere-prop ascending segments_less segments.items },
 }
 
-impl MemTables {
-    ghost use Rattle.keeper_store.specs.Memory.{held_tables, HasRoom};
+impl RowTables {
+    ghost use Rattle.keeper_store.specs.Held.{held_tables, HasRoom, IsInOrder, RowsAscend};
 
     /// These tables, with no memory taken.
-    pub(crate) fn of(tables: Tables) -> MemTables
-        ensures { held_tables result ≡ tables }
+    pub fn of(tables: Tables) -> RowTables
+        ensures held { held_tables result ≡ tables }
+        ensures order { RowsAscend tables → IsInOrder result }
     {
         let recordings = tables.recordings.into_vec();
         let segments = tables.segments.into_vec();
         let ascending = ascend(recordings.as_slice()) && ascend(segments.as_slice());
-        MemTables {
+        RowTables {
             next_album: tables.next_album,
             next_recording: tables.next_recording,
             next_take: tables.next_take,
@@ -78,9 +81,29 @@ impl MemTables {
         Ok(())
     }
 
-    /// Makes room for so many rows more.
-    fn reserve(&mut self, more: usize) -> Result<(), Memory>
+    /// The numbers that come next.
+    pub fn next_numbers(&self) -> NextNumbers
+        ensures { result ≡ next_numbers (held_tables self.now) }
+    {
+        NextNumbers {
+            album: self.next_album,
+            recording: self.next_recording,
+            take: self.next_take,
+        }
+    }
+
+    /// The rows of the recordings.
+    pub fn recordings(&self) -> &[RecordingRow]
+        ensures rows { result.now ≡ (held_tables self.now).recordings }
+        ensures ascend { IsInOrder self.now → Ascends recording_less result.now }
+    {
+        self.recordings.as_slice()
+    }
+
+    /// Makes room for so many rows more in each table that changes put rows into.
+    pub fn reserve(&mut self, more: usize) -> Result<(), Memory>
         ensures kept { held_tables self.new ≡ held_tables self.old }
+        ensures order { IsInOrder self.old → IsInOrder self.new }
         ensures room { OnOk result (HasRoom self.new more) }
     {
         self.recordings.reserve(more)?;
@@ -88,10 +111,11 @@ impl MemTables {
         Ok(())
     }
 
-    /// Makes changes in the room that there is.
-    fn make_all(&mut self, changes: Vec<Change>)
+    /// Makes changes, of which the first is made first, in the room that there is.
+    pub fn make_all(&mut self, changes: Vec<Change>)
         requires { HasRoom self.old (length changes.items) }
-        ensures { held_tables self.new ≡ changed_all changes.items (held_tables self.old) }
+        ensures made { held_tables self.new ≡ changed_all changes.items (held_tables self.old) }
+        ensures order { IsInOrder self.old → IsInOrder self.new }
     {
         for change in changes {
             self.make_one(change);
@@ -102,6 +126,7 @@ impl MemTables {
     fn make_one(&mut self, change: Change)
         requires { HasRoom self.old 1 }
         ensures made { held_tables self.new ≡ changed change (held_tables self.old) }
+        ensures order { IsInOrder self.old → IsInOrder self.new }
         ensures room { (more : ℕ) → HasRoom self.old (more + 1) → HasRoom self.new more }
     {
         match change {

@@ -2,7 +2,7 @@ use Rattle.std.proofs.Common.{◌≡◌, ◌+◌, [], ◌∷◌, length, ap, sym
 use Rattle.std.specs.Vec.Iter.{into_iter_items}
 use Rattle.keeper_store.specs.Changes.{changed_all}
 use Rattle.keeper_store.proofs.Changing.{none_left}
-use Rattle.keeper_store.proofs.mem_tables.MemTables.make_all.Goals as goal
+use Rattle.keeper_store.proofs.row_tables.RowTables.make_all.Goals as goal
 
 pub make_one-requires : goal.make_one-requires
 make_one-requires c =
@@ -25,10 +25,11 @@ loop-change-preserved c =
       counted = omega (arith, at.invariant.counted, gone, more);
       room = c.make_one.ensures.room (length rest) (rw more at at.invariant.room);
       leads = ap (changed_all rest) c.make_one.ensures.made ∙ rw steps at at.invariant.leads;
+      order = λ is. c.make_one.ensures.order (at.invariant.order is);
     }
 
-pub returns : goal.returns
-returns c =
+pub returns-clause-made : goal.returns-clause-made
+returns-clause-made c =
     let at = c.loop-change in
     let none = c.in-None.ensures.steps in
     let empty : into_iter_items at.change-iterator ≡ [] = none_left _ (sym at.invariant.counted ∙ none.0) in
