@@ -12,6 +12,7 @@ use std::marker::Brand;
 use std::sync::atomic::{AtomicU64, Ordering};
 use std::sync::ledger::{Blank, Ledger};
 use std::test::Fail;
+use std::thread::Threads;
 
 /// A wave of the samples 0, 16384, -16384 and 1.
 const FOUR: [u8; 52] =
@@ -25,8 +26,8 @@ const CUT: [u8; 46] =
 const FOUR_DIGEST: [u8; 16] = *b"\xe2\x2a\x65\x56\xf8\x8f\x1d\x04\xb7\x32\x72\x35\xac\x86\xad\x47";
 
 /// Asks for the import of a file, and answers its reply.
-fn import(
-    rt: &HostRuntime,
+fn import<R: Threads + Sync>(
+    rt: &R,
     library: &mut Library,
     file: &[u8],
     keeper: &mut MemKeeper,
@@ -35,7 +36,7 @@ fn import(
     requires { (⟦<MemKeeper as Keeper>⟧.shown keeper.old).tables ≡ Some (kept_tables library.old) }
     ensures { (⟦<MemKeeper as Keeper>⟧.shown keeper.new).tables ≡ Some (kept_tables library.new) }
 {
-    import_by::<OpenGate, Brand>(
+    import_by::<R, OpenGate, Brand>(
         rt,
         library,
         file,
@@ -48,8 +49,8 @@ fn import(
 }
 
 /// The same with so many workers and a gate. Its steps are counted in the blank's ledger.
-fn import_by<G: Gate, L: Ledger>(
-    rt: &HostRuntime,
+fn import_by<R: Threads + Sync, G: Gate, L: Ledger>(
+    rt: &R,
     library: &mut Library,
     file: &[u8],
     keeper: &mut MemKeeper,
@@ -258,7 +259,7 @@ fn two_jobs_meet(rt: HostRuntime) -> Result<(), Fail> {
         second: AtomicU64::new(0),
         met: AtomicU64::new(0),
     };
-    let reply = import_by::<Meeting, Brand>(
+    let reply = import_by::<HostRuntime, Meeting, Brand>(
         &rt,
         &mut library,
         STEREO.as_slice(),

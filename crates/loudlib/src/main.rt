@@ -12,7 +12,9 @@ use lib_base::{MemDoor, Memory};
 use report_cli::{Status, run};
 use std::alloc::Global;
 use std::env::Env;
+use std::io::{Input, Print};
 use std::process::ExitCode;
+use std::thread::Threads;
 use std::{env, io};
 
 /// The words of the command line, after the program's name. Where one can't be read there are none.
@@ -28,7 +30,10 @@ fn words<R: Env + AllocGlobal>(rt: &R, alloc: Global) -> Result<Vec<String>, Mem
 }
 
 /// Runs the command of the words over standard input and output, and a library in memory.
-fn run_words(rt: &HostRuntime, alloc: Global) -> Result<u8, Memory> {
+fn run_words<R: Env + Input + Print + Threads + Sync + AllocGlobal>(
+    rt: &R,
+    alloc: Global,
+) -> Result<u8, Memory> {
     let words = words(rt, alloc)?;
     let mut source = streams::standard_input(rt);
     let mut sink = streams::standard_output(rt);
