@@ -1,4 +1,3 @@
 pub mod Deciding
 pub mod FoundRows
 pub mod Summing
-pub mod Texts

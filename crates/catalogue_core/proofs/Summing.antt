@@ -9,7 +9,8 @@ use Rattle.file_model.proofs.Samples.{AreBytes, length-bytes}
 use Rattle.file_model.proofs.Waves.{chunks_of_wave, size_positive}
 use Rattle.sound_model.proofs.EnergyBounds.{length-energies, energies_within}
 use Rattle.sound_model.proofs.PeakBounds.{peak_of_within}
-use Rattle.catalogue_core.specs.Examining.{IsSummable, measured_of}
+use Rattle.library_model.specs.Findings.{measured_of}
+use Rattle.catalogue_core.specs.Examining.{IsSummable}
 
 within_product : (a n : ℕ) → 0 < a → n ≤ a * n
 within_product zero n some = absurd (omega (arith, some))

@@ -4,7 +4,7 @@ use Rattle.keeper_store.specs.declared.row_types.RecordingRow.{RecordingRow}
 use Rattle.library_model.specs.declared.messages.Reply.{Reply}
 use Rattle.library_model.specs.declared.refusals.Refusal.TheVariants.{NoRecording}
 use Rattle.library_model.specs.Replies.{refusal}
-use Rattle.catalogue_core.specs.Objects.{row_reply}
+use Rattle.library_model.specs.Bodies.{row_reply}
 
 -- what is replied about the row that was looked for
 abbrev pub found_row_reply : Option RecordingRow → Reply

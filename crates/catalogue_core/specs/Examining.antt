@@ -5,14 +5,10 @@ use Rattle.lib_base.specs.declared.files.Summary.{Summary}
 use Rattle.file_model.specs.Pcm.{Pcm}
 use Rattle.file_model.specs.Reading.{Reads, accepted, broken}
 use Rattle.gate_blocks.specs.Bounds.{AreSegments}
-use Rattle.library_model.specs.Findings.{IsSummaryOf}
-use Rattle.sound_model.specs.Summaries.{measured, greatest_peak}
+use Rattle.library_model.specs.Findings.{IsSummaryOf, measured_of}
+use Rattle.sound_model.specs.Summaries.{greatest_peak}
 use Rattle.catalogue_core.specs.declared.examining.Examined.{Examined}
 use Rattle.catalogue_core.specs.declared.examining.Examined.TheVariants.{Accepted, Broken}
-
--- what is measured of a sound
-abbrev pub measured_of : Pcm → Measured
-measured_of sound = measured sound.depth sound.frames sound.lists
 
 -- It is small enough for its levels to be taken, and for its energies to be stored.
 pub record IsSummable (m : Measured) : Type 0 where

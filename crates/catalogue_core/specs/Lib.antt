@@ -3,6 +3,5 @@ pub mod Committing
 pub mod Examining
 pub mod Imports
 pub mod Kept
-pub mod Objects
 pub mod Opening
 pub mod Staging

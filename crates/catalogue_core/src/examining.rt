@@ -1,17 +1,20 @@
 //! What a file is, and what is measured of it.
-ghost use Rattle.std.specs.Prelude.{◌≡◌, IfOk};
+ghost use Rattle.std.specs.Prelude.{◌≡◌, ◌≤◌, IfOk};
 ghost use Rattle.file_model.specs.Pcm.{Pcm};
 ghost use Rattle.file_model.specs.Wave.{IsWave};
+ghost use Rattle.measure_pool.specs.declared.plans.TheConstants.{MOST_WORKERS};
 ghost use Rattle.sound_model.specs.Blocks.{blocks_of, windows_of};
 ghost use Rattle.sound_model.specs.Summaries.{Summarises};
 ghost use Rattle.wave_chunks.specs.Answers.{IsReadOf};
-ghost use Rattle.catalogue_core.specs.Examining.{IsFound, IsSummable, measured_of};
+ghost use Rattle.catalogue_core.specs.Examining.{IsFound, IsSummable};
+ghost use Rattle.library_model.specs.Findings.{measured_of};
 
 use album_merge::summarise;
 use gate_blocks::{blocks, windows};
 use lib_base::{Broken, Measured, Memory, Refused, Summary};
-use measure_pool::measure_alone;
+use measure_pool::{Gate, measure};
 use std::alloc::Global;
+use std::thread::Threads;
 use wave_chunks::{Wave, WaveSound};
 
 /// What a file is found to be.
@@ -23,13 +26,21 @@ pub enum Examined {
     Broken(Broken),
 }
 
-/// What a file is, and what is measured of it where it is accepted.
-pub fn examine(alloc: Global, file: &[u8]) -> Result<Examined, Memory>
+/// What a file is, and what so many workers measure of it where it is accepted.
+pub fn examine<R: Threads + Sync, G: Gate>(
+    rt: &R,
+    alloc: Global,
+    file: &[u8],
+    workers: u32,
+    gate: &G,
+) -> Result<Examined, Memory>
+    requires some { 1 ≤ workers }
+    requires most { workers ≤ MOST_WORKERS }
     ensures { IfOk result (λ found. IsFound file.now found) }
 {
     match wave_chunks::read(alloc, file) {
         Ok(wave) => {
-            let measured = measure_wave(alloc, file, &wave)?;
+            let measured = measure_wave(rt, alloc, file, &wave, workers, gate)?;
             let summary = summary_of(alloc, &measured)?;
             Ok(Examined::Accepted(measured, summary))
         }
@@ -38,12 +49,21 @@ pub fn examine(alloc: Global, file: &[u8]) -> Result<Examined, Memory>
     }
 }
 
-/// What is measured of a wave file.
-fn measure_wave(alloc: Global, file: &[u8], wave: &Wave) -> Result<Measured, Memory>
-    requires { IsReadOf file.now wave.now }
+/// What so many workers measure of a wave file.
+fn measure_wave<R: Threads + Sync, G: Gate>(
+    rt: &R,
+    alloc: Global,
+    file: &[u8],
+    wave: &Wave,
+    workers: u32,
+    gate: &G,
+) -> Result<Measured, Memory>
+    requires read { IsReadOf file.now wave.now }
+    requires some { 1 ≤ workers }
+    requires most { workers ≤ MOST_WORKERS }
     ensures { IfOk result (λ measured. (sound : Pcm) → IsWave file.now sound → measured ≡ measured_of sound) }
 {
-    measure_alone(alloc, &WaveSound::over(file, wave))
+    measure(rt, alloc, &WaveSound::over(file, wave), workers, gate)
 }
 
 /// The levels of what is measured of a sound.

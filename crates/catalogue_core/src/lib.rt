@@ -15,7 +15,6 @@ mod importing;
 mod libraries;
 mod opening;
 mod prepared;
-mod reply_texts;
 mod staging;
 #[cfg(test)]
 mod tests;

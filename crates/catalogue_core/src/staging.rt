@@ -1,29 +1,42 @@
 //! Deciding a request, and taking all that accepting it wants.
-ghost use Rattle.std.specs.Prelude.{◌≡◌, IfOk};
+ghost use Rattle.std.specs.Prelude.{◌≡◌, ◌≤◌, IfOk};
 ghost use Rattle.keeper_store.specs.EnergyBytes.{AreEnergies};
 ghost use Rattle.library_model.specs.State.{State};
+ghost use Rattle.measure_pool.specs.declared.plans.TheConstants.{MOST_WORKERS};
 ghost use Rattle.catalogue_core.specs.Imports.{StagesAccepted, lacks_numbers};
-ghost use Rattle.catalogue_core.specs.Kept.{kept_tables, Keeps};
+ghost use Rattle.catalogue_core.specs.Kept.{Keeps, numbers_of};
 ghost use Rattle.catalogue_core.specs.Staging.{StagedFrom, Stages, LeavesUnlessFailed};
 
 use crate::examining::{Examined, examine};
 use crate::importing::prepare_import;
-use crate::reply_texts::{refuse, refuse_format};
 use crate::{Library, Staged};
-use keeper_store::Vault;
-use lib_base::{Bytes, Measured, Memory, Outside, Summary};
+use json_bodies::{refuse, refuse_format};
+use keeper_store::{NextNumbers, Vault};
+use lib_base::{Bytes, Measured, Memory, Outside, Steps, Summary};
 use library_model::{Command, Refusal, Request};
+use measure_pool::Gate;
+use std::sync::ledger::Ledger;
+use std::thread::Threads;
 
 /// The number from which on none is given to a recording or a take.
 const NUMBERS_END: u32 = 2_147_483_647;
 
 /// Decides a request. Where it is accepted, its file is put into the vault under the next take, and
 /// its change waits for `commit`, which takes no memory. What the library keeps is unchanged.
-pub fn stage<V: Vault>(
+///
+/// So many workers, 1 to 64, measure its sound, and the gate is told of each of their jobs as it
+/// starts. `steps` is for the reads of tallies, of which a request makes none yet.
+pub fn stage<R: Threads + Sync, V: Vault, G: Gate, L: Ledger>(
+    rt: &R,
     library: &mut Library,
     request: Request,
     vault: &mut V,
+    workers: u32,
+    gate: &G,
+    steps: &mut Steps<L>,
 ) -> Result<Staged, Memory>
+    requires some { 1 ≤ workers }
+    requires most { workers ≤ MOST_WORKERS }
     ensures staged { (s : State) → Keeps library.old s
         → IfOk result (StagedFrom s request (V.shown vault.old).faults (V.shown vault.new).faults) }
     ensures stages { Stages request.command library.old library.new (V.shown vault.old) (V.shown vault.new) result }
@@ -33,21 +46,26 @@ pub fn stage<V: Vault>(
 {
     let Request { command } = request;
     match command {
-        Command::Import { bytes } => stage_import(library, bytes, vault),
+        Command::Import { bytes } => stage_import(rt, library, bytes, vault, workers, gate),
     }
 }
 
-fn stage_import<V: Vault>(
+fn stage_import<R: Threads + Sync, V: Vault, G: Gate>(
+    rt: &R,
     library: &mut Library,
     file: Bytes,
     vault: &mut V,
+    workers: u32,
+    gate: &G,
 ) -> Result<Staged, Memory>
+    requires some { 1 ≤ workers }
+    requires most { workers ≤ MOST_WORKERS }
     ensures staged { (s : State) → Keeps library.old s
         → IfOk result (StagedFrom s (record { command = Command.Import file }) (V.shown vault.old).faults (V.shown vault.new).faults) }
     ensures stages { Stages (Command.Import file) library.old library.new (V.shown vault.old) (V.shown vault.new) result }
     ensures untouched { LeavesUnlessFailed result vault.old vault.new }
 {
-    match examine(library.alloc, file.as_slice())? {
+    match examine(rt, library.alloc, file.as_slice(), workers, gate)? {
         Examined::Broken(fault) => Ok(Staged::Refused(refuse_format(library.alloc, fault)?)),
         Examined::Accepted(measured, summary) => {
             stage_accepted(library, file.as_slice(), &measured, summary, vault)
@@ -64,25 +82,26 @@ fn stage_accepted<V: Vault>(
     vault: &mut V,
 ) -> Result<Staged, Memory>
     requires { AreEnergies measured.now.energies }
-    ensures accepted { IfOk result (StagesAccepted (kept_tables library.old) file.now measured.now summary
+    ensures accepted { IfOk result (StagesAccepted (numbers_of library.old) file.now measured.now summary
         (V.shown vault.old).faults (V.shown vault.new).faults) }
     ensures stages { Stages (Command.Import file.now) library.old library.new (V.shown vault.old) (V.shown vault.new) result }
     ensures untouched { LeavesUnlessFailed result vault.old vault.new }
 {
     let alloc = library.alloc;
-    if has_no_number(library) {
+    let next = library.rows.next_numbers();
+    if lacks_numbers(next) {
         return Ok(Staged::Refused(refuse(alloc, Refusal::Ids)?));
     }
     let ready = prepare_import(library, file, measured, summary)?;
-    match vault.put(library.next_take, file) {
+    match vault.put(next.take, file) {
         Ok(()) => Ok(Staged::Ready(ready)),
         Err(Outside::Failed) => Ok(Staged::Refused(refuse(alloc, Refusal::Vault)?)),
         Err(Outside::Memory) => Err(Memory),
     }
 }
 
-fn has_no_number(library: &Library) -> bool
-    ensures { result ≡ lacks_numbers (kept_tables library.now) }
+fn lacks_numbers(next: NextNumbers) -> bool
+    ensures { result ≡ lacks_numbers next }
 {
-    library.next_recording >= NUMBERS_END || library.next_take >= NUMBERS_END
+    next.recording >= NUMBERS_END || next.take >= NUMBERS_END
 }

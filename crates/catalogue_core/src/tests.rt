@@ -1,12 +1,15 @@
 //! The library over a keeper and a vault in memory.
-ghost use Rattle.std.specs.Prelude.{◌≡◌, Some};
-ghost use Rattle.catalogue_core.specs.Kept.{kept_tables};
+ghost use Rattle.std.specs.Prelude.{◌≡◌, ◌≤◌, ◌<◌};
+ghost use Rattle.measure_pool.specs.declared.plans.TheConstants.{MOST_WORKERS};
 
 use crate::{BadRow, Library, OpenRefusal, Staged, ask, commit, stage};
 use keeper_store::{Keeper, MemKeeper, MemVault, Tables, Vault};
-use lib_base::{Bytes, Memory};
+use lib_base::{Bytes, Memory, Steps};
 use library_model::{Command, Question, Reply, Request};
-use std::alloc::Global;
+use measure_pool::{Gate, OpenGate};
+use std::marker::Brand;
+use std::sync::atomic::{AtomicU64, Ordering};
+use std::sync::ledger::{Blank, Ledger};
 use std::test::Fail;
 
 /// A wave of the samples 0, 16384, -16384 and 1.
@@ -22,19 +25,47 @@ const FOUR_DIGEST: [u8; 16] = *b"\xe2\x2a\x65\x56\xf8\x8f\x1d\x04\xb7\x32\x72\x3
 
 /// Asks for the import of a file, and answers its reply.
 fn import(
+    rt: &HostRuntime,
     library: &mut Library,
     file: &[u8],
     keeper: &mut MemKeeper,
     vault: &mut MemVault,
+) -> Result<Reply, Memory> {
+    import_by::<OpenGate, Brand>(
+        rt,
+        library,
+        file,
+        keeper,
+        vault,
+        4,
+        &OpenGate,
+        Blank::new(1),
+    )
+}
+
+/// The same with so many workers and a gate. Its steps are counted in the blank's ledger.
+fn import_by<G: Gate, L: Ledger>(
+    rt: &HostRuntime,
+    library: &mut Library,
+    file: &[u8],
+    keeper: &mut MemKeeper,
+    vault: &mut MemVault,
+    workers: u32,
+    gate: &G,
+    blank: Blank,
 ) -> Result<Reply, Memory>
-    requires { (⟦<MemKeeper as Keeper>⟧.shown keeper.old).tables ≡ Some (kept_tables library.old) }
-    ensures { (⟦<MemKeeper as Keeper>⟧.shown keeper.new).tables ≡ Some (kept_tables library.new) }
+    requires some { 1 ≤ workers }
+    requires most { workers ≤ MOST_WORKERS }
+    requires name { blank.name ≡ L.name }
+    requires parts { blank.parts ≡ L.parts }
+    requires share { 0 < blank.parts }
 {
     let bytes = Bytes::copy(library.alloc, file)?;
     let request = Request {
         command: Command::Import { bytes },
     };
-    match stage(library, request, vault)? {
+    let mut steps: Steps<L> = Steps::new(blank);
+    match stage(rt, library, request, vault, workers, gate, &mut steps)? {
         Staged::Refused(reply) => Ok(reply),
         Staged::Ready(ready) => Ok(commit(library, ready, keeper)),
     }
@@ -70,8 +101,8 @@ fn a_library_opens_over_empty_tables_alone(rt: HostRuntime) -> Result<(), Fail> 
 #[test]
 fn imports_are_answered_in_turn(rt: HostRuntime) -> Result<(), Fail> {
     let alloc = rt.alloc();
-    let mut stereo = FOUR;
-    stereo[22] = 2;
+    let mut misaligned = FOUR;
+    misaligned[22] = 2;
     let mut keeper = MemKeeper::new(Tables::empty(alloc), [2].to_vec(alloc)?);
     let mut vault = MemVault::new(alloc, [1].to_vec(alloc)?);
     let mut library = Library::open(alloc, &mut keeper)?;
@@ -97,7 +128,7 @@ fn imports_are_answered_in_turn(rt: HostRuntime) -> Result<(), Fail> {
             r#"{"error":"format","place":36,"rule":"V4"}"#,
         ),
         (
-            stereo.as_slice(),
+            misaligned.as_slice(),
             422,
             r#"{"error":"format","place":32,"rule":"V12"}"#,
         ),
@@ -114,7 +145,7 @@ fn imports_are_answered_in_turn(rt: HostRuntime) -> Result<(), Fail> {
             r#"{"channels":1,"depth":16,"frames":4,"gain":null,"id":2,"loudness":null,"momentary":null,"peak":"0.537233","range":null,"short":null,"true_peak":-540}"#,
         ),
     ] {
-        let reply = import(&mut library, file, &mut keeper, &mut vault)?;
+        let reply = import(&rt, &mut library, file, &mut keeper, &mut vault)?;
         assert_eq!(rt; reply.status, status, "{body}");
         assert_eq!(rt; reply.body.as_slice(), body.as_bytes());
     }
@@ -127,7 +158,7 @@ fn an_import_is_kept(rt: HostRuntime) -> Result<(), Fail> {
     let mut keeper = MemKeeper::new(Tables::empty(alloc), Vec::new(alloc));
     let mut vault = MemVault::new(alloc, Vec::new(alloc));
     let mut library = Library::open(alloc, &mut keeper)?;
-    let reply = import(&mut library, FOUR.as_slice(), &mut keeper, &mut vault)?;
+    let reply = import(&rt, &mut library, FOUR.as_slice(), &mut keeper, &mut vault)?;
     assert_eq!(rt; reply.status, 201);
     let tables = keeper.load()?;
     assert_eq!(rt;
@@ -156,7 +187,7 @@ fn a_question_is_answered_from_the_rows(rt: HostRuntime) -> Result<(), Fail> {
     let mut keeper = MemKeeper::new(Tables::empty(alloc), Vec::new(alloc));
     let mut vault = MemVault::new(alloc, Vec::new(alloc));
     let mut library = Library::open(alloc, &mut keeper)?;
-    import(&mut library, FOUR.as_slice(), &mut keeper, &mut vault)?;
+    import(&rt, &mut library, FOUR.as_slice(), &mut keeper, &mut vault)?;
     for (id, status, body) in [
         (
             1,
@@ -170,5 +201,68 @@ fn a_question_is_answered_from_the_rows(rt: HostRuntime) -> Result<(), Fail> {
         assert_eq!(rt; reply.body.as_slice(), body.as_bytes(), "{id}");
     }
     assert_eq!(rt; vault.calls(), 1);
+    Ok(())
+}
+
+/// A wave of two frames of two channels: the samples 0 and 16384, then -16384 and 1.
+const STEREO: [u8; 52] =
+    *b"RIFF\x2c\0\0\0WAVEfmt \x10\0\0\0\x01\0\x02\0\x80\xbb\0\0\0\xee\x02\0\x04\0\x10\0data\x08\0\0\0\0\0\0\x40\0\xc0\x01\0";
+
+/// A gate at which two jobs wait until each has seen the other.
+#[derive(Drop)]
+struct Meeting {
+    first: AtomicU64,
+    second: AtomicU64,
+    met: AtomicU64,
+}
+
+impl Gate for Meeting {
+    fn started(&self, job: u32) {
+        let met = if job == 0 {
+            meets(&self.first, &self.second)
+        } else {
+            meets(&self.second, &self.first)
+        };
+        if met {
+            self.met.fetch_add(1, Ordering::SeqCst);
+        }
+    }
+}
+
+/// Sets a job's mark, and waits for the other's: whether it came.
+fn meets(own: &AtomicU64, other: &AtomicU64) -> bool {
+    own.store(1, Ordering::SeqCst);
+    for _ in 0..100_000_000u32 {
+        if other.load(Ordering::SeqCst) == 1 {
+            return true;
+        }
+    }
+    false
+}
+
+// A body that measures in one thread, job after job, waits in vain.
+#[test]
+fn two_jobs_meet(rt: HostRuntime) -> Result<(), Fail> {
+    let alloc = rt.alloc();
+    let mut keeper = MemKeeper::new(Tables::empty(alloc), Vec::new(alloc));
+    let mut vault = MemVault::new(alloc, Vec::new(alloc));
+    let mut library = Library::open(alloc, &mut keeper)?;
+    let gate = Meeting {
+        first: AtomicU64::new(0),
+        second: AtomicU64::new(0),
+        met: AtomicU64::new(0),
+    };
+    let reply = import_by::<Meeting, Brand>(
+        &rt,
+        &mut library,
+        STEREO.as_slice(),
+        &mut keeper,
+        &mut vault,
+        2,
+        &gate,
+        Blank::new(1),
+    )?;
+    assert_eq!(rt; reply.status, 201);
+    assert_eq!(rt; gate.met.load(Ordering::SeqCst), 2);
     Ok(())
 }

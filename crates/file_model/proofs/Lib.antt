@@ -14,5 +14,6 @@ pub mod Spellings
 pub mod Waves
 mod WorkedBits
 mod WorkedFields
-mod WorkedFrames
+mod WorkedFlac
+pub mod WorkedFrames
 pub mod WorkedPredictions

@@ -10,18 +10,18 @@ use Rattle.file_model.specs.Bits.{bits_in, bits, number}
 use Rattle.file_model.specs.Crc.{less, divided, remainder, crc8, crc16}
 use Rattle.file_model.specs.Fields.{field, signed_field, unary_at, rice_at, lead, coded_more, coded_at, align_at}
 use Rattle.file_model.specs.FlacHeader.{codes_at, size_at, rate_at, header_at}
-use Rattle.file_model.specs.FlacFrame.{Frame, footer_at}
+use Rattle.file_model.specs.FlacFrame.{Body, Frame, footer_at}
 use Rattle.file_model.specs.Outcomes.{times_at}
 use Rattle.file_model.proofs.Predictions.{Spells-plain}
 use Rattle.file_model.specs.Predict.{at, weighted_before, predicted}
 use Rattle.file_model.specs.Subframe.{Coded, unfolded, IsSpelledBy, subframe_head_at, wasted_at, subframe_at, residual_at, partition_at, partitions_at, residuals_at, predictor_at, content_at}
 
 -- one channel of 16 bits
-info : Info
+unfoldable pub info : Info
 info = record { rate = 48000; channels = 1; depth = 16; total = 16; md5 = replicate 16 0 }
 
 -- a header of seven bytes, a subframe of three, and the check
-frame : List ℕ
+unfoldable pub frame : List ℕ
 frame = 0xFF ∷ 0xF8 ∷ 0x6A ∷ 0x08 ∷ 0x00 ∷ 0x0F ∷ 0x0A ∷ 0x00 ∷ 0x00 ∷ 0x01 ∷ 0xBE ∷ 0x85 ∷ []
 
 -- the frame with another byte at a place
@@ -34,7 +34,7 @@ ones = record { weights = []; shift = 0; numbers = replicate 16 (pos 1); wasted 
 
 -- ---- the header
 
-row_header : header_at info frame ≡ Ok (record { block = 16; stereo = None; length = 7 })
+pub row_header : header_at info frame ≡ Ok (record { block = 16; stereo = None; length = 7 })
 unfolding info frame bits_in bits number less divided remainder crc8 field lead coded_more coded_at codes_at size_at rate_at header_at
 row_header = refl
 
@@ -193,21 +193,20 @@ ones_spelled = record {
   shifted = refl;
 }
 
-row_frame : Frame info frame (Ok (record { lists = replicate 16 (pos 1) ∷ []; length = 12 }))
+pub row_body : Body info frame (record { block = 16; stereo = None; length = 7 }) (Ok (record { lists = replicate 16 (pos 1) ∷ []; length = 12 }))
 unfolding info
-row_frame = inl (
-  record { block = 16; stereo = None; length = 7 },
-  sym row_header,
+row_body = inl (
+  (replicate 16 (pos 1) ∷ [], bits (0xBE ∷ 0x85 ∷ [])),
   inl (
-    (replicate 16 (pos 1) ∷ [], bits (0xBE ∷ 0x85 ∷ [])),
-    inl (
-      (replicate 16 (pos 1), bits (0xBE ∷ 0x85 ∷ [])),
-      inl ((ones, bits (0xBE ∷ 0x85 ∷ [])), sym row_subframe, inl (replicate 16 (pos 1), ones_spelled, refl)),
-      inl (([], bits (0xBE ∷ 0x85 ∷ [])), refl, refl),
-    ),
-    inl (replicate 16 (pos 1) ∷ [], refl, inl (12, sym row_footer, refl)),
+    (replicate 16 (pos 1), bits (0xBE ∷ 0x85 ∷ [])),
+    inl ((ones, bits (0xBE ∷ 0x85 ∷ [])), sym row_subframe, inl (replicate 16 (pos 1), ones_spelled, refl)),
+    inl (([], bits (0xBE ∷ 0x85 ∷ [])), refl, refl),
   ),
+  inl (replicate 16 (pos 1) ∷ [], refl, inl (12, sym row_footer, refl)),
 )
+
+row_frame : Frame info frame (Ok (record { lists = replicate 16 (pos 1) ∷ []; length = 12 }))
+row_frame = inl (record { block = 16; stereo = None; length = 7 }, sym row_header, row_body)
 
 -- bytes whose header is broken are no frame
 row_frame_of_header : Frame info (edited 1 0xF0) (Err LostSync)

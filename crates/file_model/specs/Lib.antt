@@ -3,6 +3,8 @@ pub mod Channels
 pub mod Chunks
 pub mod Crc
 pub mod Fields
+pub mod FlacBreaks
+pub mod FlacFile
 pub mod FlacFrame
 pub mod FlacHeader
 pub mod FlacRules

@@ -2,6 +2,10 @@
 use Rattle.std.specs.Prelude.{◌≡◌, ℕ, List}
 use Rattle.lib_base.specs.declared.outcomes.Rule.{Rule}
 use Rattle.file_model.specs.declared.wave_rules.WaveRule.{WaveRule}
+use Rattle.file_model.specs.declared.flac_rules.FlacRule.{FlacRule}
+use Rattle.file_model.specs.FlacBreaks.{FlacBreaks}
+use Rattle.file_model.specs.FlacFile.{IsFlac}
+use Rattle.file_model.specs.FlacRules.{flac_rule_of}
 use Rattle.file_model.specs.Pcm.{Pcm}
 use Rattle.file_model.specs.Rules.{rule_of, Breaks, BreaksNoneBelow}
 use Rattle.file_model.specs.Wave.{IsWave}
@@ -22,6 +26,15 @@ pub record IsBroken (bytes : List ℕ) (rule : WaveRule) (place : ℕ) : Type 0 
   pub lowest : BreaksNoneBelow bytes rule
 
 -- A wave is accepted with its sound. Anything else is broken by the lowest rule that it breaks, at its place.
+abbrev pub ReadsAsWave : List ℕ → Reading → Type 0
+ReadsAsWave bytes (accepted sound) = IsWave bytes sound
+ReadsAsWave bytes (broken rule place) = (lowest : WaveRule) × (rule ≡ rule_of lowest) × IsBroken bytes lowest place
+
+-- A FLAC file is accepted with its sound. Anything else is broken by the first rule that it breaks, at its place.
+abbrev pub ReadsAsFlac : List ℕ → Reading → Type 0
+ReadsAsFlac bytes (accepted sound) = IsFlac bytes sound
+ReadsAsFlac bytes (broken rule place) = (first : FlacRule) × (rule ≡ flac_rule_of first) × FlacBreaks bytes first place
+
+-- what the library reads: waves, so far
 abbrev pub Reads : List ℕ → Reading → Type 0
-Reads bytes (accepted sound) = IsWave bytes sound
-Reads bytes (broken rule place) = (lowest : WaveRule) × (rule ≡ rule_of lowest) × IsBroken bytes lowest place
+Reads bytes reading = ReadsAsWave bytes reading

@@ -7,6 +7,7 @@
 #![tactic(auto)]
 
 mod bits;
+pub mod flac_fields;
 mod flac_info;
 mod flac_rules;
 mod pairs;

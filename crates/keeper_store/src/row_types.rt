@@ -1,8 +1,6 @@
 //! The rows of the tables, and lists of them.
-ghost use Rattle.std.specs.Prelude.{◌≡◌};
 
-use lib_base::{Bytes, Kind, Summary, Text};
-use std::marker::Model;
+use lib_base::{Bytes, Kind, Seq, Summary, Text};
 
 /// An album, with the summary of its recordings.
 #[derive(Clone, Debug, Drop)]
@@ -44,37 +42,4 @@ pub struct ReplyRow {
 }
 
 /// Rows, or changes, that contracts see as a list.
-#[derive(Clone, Debug, Drop)]
-pub struct Rows<T> {
-    items: Vec<T>,
-}
-
-impl<T> Model for Rows<T> {
-    ghost use Rattle.std.specs.Prelude.{List};
-
-    ghost Value = { List T };
-
-    ghost view = { λ r. r.items.items };
-}
-
-impl<T> Rows<T> {
-    /// The rows of a vector, with no memory taken.
-    pub fn of(items: Vec<T>) -> Rows<T>
-        ensures { result ≡ items.items }
-    {
-        Rows { items }
-    }
-
-    /// The vector, given back with no memory taken.
-    pub fn into_vec(self) -> Vec<T>
-        ensures { result.items ≡ self }
-    {
-        self.items
-    }
-
-    pub fn as_slice(&self) -> &[T]
-        ensures { result.now ≡ self.now }
-    {
-        self.items.as_slice()
-    }
-}
+pub type Rows<T> = Seq<T>;

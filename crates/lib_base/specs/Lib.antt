@@ -1,4 +1,4 @@
-pub mod CellLends
+pub mod ItemLends
 pub mod Doors
 pub mod Faults
 pub mod Kinds

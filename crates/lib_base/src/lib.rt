@@ -28,4 +28,4 @@ pub use sinks::{MemSink, Sink, write_all};
 pub use sounds::{PIECE, PcmSound, Scratch, Sound};
 pub use sources::{MemSource, ReadEnd, Source, Taken, read_up_to};
 pub use steps::Steps;
-pub use values::{Bytes, Cells, Energies, Text};
+pub use values::{Bytes, Cells, Energies, Seq, Text};

@@ -1,6 +1,6 @@
 //! What a call can answer besides its value.
 ghost use Rattle.std.specs.Prelude.{◌≡◌, Some};
-ghost use Rattle.lib_base.specs.Rules.{rule_text};
+ghost use Rattle.lib_base.specs.Rules.{rule_text, broken_text};
 ghost use Rattle.lib_base.specs.declared.outcomes.Outside.TheVariants as outside;
 ghost use Rattle.lib_base.specs.declared.outcomes.Refused.TheVariants as refused;
 
@@ -92,6 +92,15 @@ impl fmt::Display for Rule {
 pub struct Broken {
     pub rule: Rule,
     pub place: u64,
+}
+
+/// Prints as `rule F28 place 42`.
+impl fmt::Display for Broken {
+    ghost output = { λ broken. Some (broken_text broken) };
+
+    fn fmt<W: fmt::Write>(&self, f: &mut fmt::Formatter<W>) -> fmt::Result {
+        write!(f, "rule {} place {}", self.rule, self.place)
+    }
 }
 
 /// Why a reader refuses a file.

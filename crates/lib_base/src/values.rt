@@ -1,101 +1,60 @@
-//! Bytes, cells, energies and texts that contracts see as lists.
-ghost use Rattle.std.specs.Prelude.{◌≡◌, length, IfOk, string_bytes};
+//! The one list type, of bytes, cells and energies, and texts.
+ghost use Rattle.std.specs.Prelude.{◌≡◌, length, nat_eq, IfOk, string_bytes};
 
 use crate::Memory;
 use std::alloc::Global;
 use std::marker::Model;
 
-/// Bytes that contracts see as a list.
+/// Items that contracts see as a list.
 #[derive(Clone, Debug, Drop)]
-pub struct Bytes {
-    items: Vec<u8>,
+pub struct Seq<T> {
+    items: Vec<T>,
 }
 
-impl Model for Bytes {
-    ghost use Rattle.std.specs.Prelude.{List, ℕ};
+/// Bytes.
+pub type Bytes = Seq<u8>;
 
-    ghost Value = { List ℕ };
+/// Signed numbers, as samples are.
+pub type Cells = Seq<i32>;
 
-    ghost view = { λ b. b.items.items };
+/// Energies, in 2^-76 of full power.
+pub type Energies = Seq<u128>;
+
+impl<T> Model for Seq<T> {
+    ghost use Rattle.std.specs.Prelude.{List};
+
+    ghost Value = { List T };
+
+    ghost view = { λ s. s.items.items };
 }
 
-impl Bytes {
-    /// The bytes of a vector, with no memory taken.
-    pub fn of(items: Vec<u8>) -> Bytes
-        ensures { result ≡ items.items }
-    {
-        Bytes { items }
-    }
-
-    /// A copy of a slice.
-    pub fn copy(alloc: Global, bytes: &[u8]) -> Result<Bytes, Memory>
-        ensures { IfOk result (λ copy. copy ≡ bytes.now) }
-    {
-        let items = Vec::from_slice(alloc, bytes)?;
-        Ok(Bytes { items })
-    }
-
-    /// The vector, given back with no memory taken.
-    pub fn into_vec(self) -> Vec<u8>
-        ensures { result.items ≡ self }
-    {
-        self.items
-    }
-
-    pub fn as_slice(&self) -> &[u8]
-        ensures { result.now ≡ self.now }
-    {
-        self.items.as_slice()
-    }
-
-    pub fn len(&self) -> usize
-        ensures { result ≡ length self.now }
-    {
-        self.items.len()
-    }
-}
-
-/// Signed numbers that contracts see as a list.
-#[derive(Clone, Debug, Drop)]
-pub struct Cells {
-    items: Vec<i32>,
-}
-
-impl Model for Cells {
-    ghost use Rattle.std.specs.Prelude.{List, ℤ};
-
-    ghost Value = { List ℤ };
-
-    ghost view = { λ c. c.items.items };
-}
-
-impl Cells {
+impl<T> Seq<T> {
     ghost use Rattle.std.specs.Borrow.{sem};
-    ghost use Rattle.lib_base.specs.CellLends.{lends_cells};
+    ghost use Rattle.lib_base.specs.ItemLends.{lends_items};
 
-    /// The cells of a vector, with no memory taken.
-    pub fn of(items: Vec<i32>) -> Cells
+    /// The items of a vector, with no memory taken.
+    pub fn of(items: Vec<T>) -> Seq<T>
         ensures { result ≡ items.items }
     {
-        Cells { items }
+        Seq { items }
     }
 
     /// The vector, given back with no memory taken.
-    pub fn into_vec(self) -> Vec<i32>
+    pub fn into_vec(self) -> Vec<T>
         ensures { result.items ≡ self }
     {
         self.items
     }
 
-    pub fn as_slice(&self) -> &[i32]
+    pub fn as_slice(&self) -> &[T]
         ensures { result.now ≡ self.now }
     {
         self.items.as_slice()
     }
 
-    /// The cells for writing. What is left behind the result is what they end as.
-    pub fn as_mut_slice(&mut self) -> &mut [i32]
-        ensures* writes_back { sem 𝓛 (lends_cells self.entry result) }
+    /// The items for writing. What is left behind the result is what they end as.
+    pub fn as_mut_slice(&mut self) -> &mut [T]
+        ensures* writes_back { sem 𝓛 (lends_items T.row self.entry result) }
         ensures value { result.now ≡ self.old }
     {
         self.items.as_mut_slice()
@@ -106,47 +65,21 @@ impl Cells {
     {
         self.items.len()
     }
+
+    pub fn is_empty(&self) -> bool
+        ensures { result ≡ nat_eq 0 (length self.now) }
+    {
+        self.items.is_empty()
+    }
 }
 
-/// Energies that contracts see as a list.
-#[derive(Clone, Debug, Drop)]
-pub struct Energies {
-    items: Vec<u128>,
-}
-
-impl Model for Energies {
-    ghost use Rattle.std.specs.Prelude.{List, ℕ};
-
-    ghost Value = { List ℕ };
-
-    ghost view = { λ e. e.items.items };
-}
-
-impl Energies {
-    /// The energies of a vector, with no memory taken.
-    pub fn of(items: Vec<u128>) -> Energies
-        ensures { result ≡ items.items }
+impl<T: Copy> Seq<T> {
+    /// A copy of a slice.
+    pub fn copy(alloc: Global, items: &[T]) -> Result<Seq<T>, Memory>
+        ensures { IfOk result (λ copy. copy ≡ items.now) }
     {
-        Energies { items }
-    }
-
-    /// The vector, given back with no memory taken.
-    pub fn into_vec(self) -> Vec<u128>
-        ensures { result.items ≡ self }
-    {
-        self.items
-    }
-
-    pub fn as_slice(&self) -> &[u128]
-        ensures { result.now ≡ self.now }
-    {
-        self.items.as_slice()
-    }
-
-    pub fn len(&self) -> usize
-        ensures { result ≡ length self.now }
-    {
-        self.items.len()
+        let items = Vec::from_slice(alloc, items)?;
+        Ok(Seq { items })
     }
 }
 

@@ -1,11 +1,12 @@
 //! A session: an input read, its requests answered, and its end.
-ghost use Rattle.std.specs.Prelude.{◌≡◌, ◌≤◌, ◌⊎◌, length, IsErrOf, OnOk, OnErr};
+ghost use Rattle.std.specs.Prelude.{◌≡◌, ◌≤◌, ◌<◌, ◌⊎◌, length, IsErrOf, OnOk, OnErr};
 ghost use Rattle.lib_base.specs.Faults.{Rose, CountsFault};
 ghost use Rattle.library_model.specs.Asked as asked;
 ghost use Rattle.library_model.specs.Asked.{change};
 ghost use Rattle.library_model.specs.Framing.{input_limit};
 ghost use Rattle.library_model.specs.State.{State};
 ghost use Rattle.catalogue_core.specs.Kept.{Keeps};
+ghost use Rattle.measure_pool.specs.declared.plans.TheConstants.{MOST_WORKERS};
 ghost use Rattle.library_http.specs.Sessions as sessions;
 ghost use Rattle.library_http.specs.Sessions.{Replied, PartlyReplied, GoesOn, Turns, Stops, EndsAfter, EndsBy, Session, CountsFaults};
 ghost use Rattle.library_http.specs.World.{World, KeepsFaults, world};
@@ -15,9 +16,12 @@ use crate::framing::{Framed, frame};
 use crate::spelling::{frame_reply, size_reply};
 use catalogue_core::{Library, ask};
 use keeper_store::{Keeper, Vault};
-use lib_base::{Outside, ReadEnd, Sink, Source, read_up_to, write_all};
+use lib_base::{Outside, ReadEnd, Sink, Source, Steps, read_up_to, write_all};
 use library_model::{Command, Question};
 use std::alloc::Global;
+use std::marker::Brand;
+use std::sync::ledger::{Blank, Ledger};
+use std::thread::Threads;
 
 /// The greatest length of an input, in bytes.
 const INPUT_LIMIT: usize = 1_048_576;
@@ -74,15 +78,23 @@ struct Served {
 }
 
 /// Reads the source to its end, or to one byte past the limit, answers the requests of that input in
-/// order, and writes their replies to the sink.
-pub fn session<S: Source, K: Sink, D: Keeper, V: Vault>(
+/// order, and writes their replies to the sink. So many workers, 1 to 64, measure each sound.
+///
+/// `requests` is how many requests a session answers at most. It is not looked at yet: an input is
+/// answered whole, since its length alone keeps its requests below the million that a run allows.
+pub fn session<R: Threads + Sync, S: Source, K: Sink, D: Keeper, V: Vault>(
+    rt: &R,
     alloc: Global,
     library: &mut Library,
     keeper: &mut D,
     vault: &mut V,
     source: &mut S,
     sink: &mut K,
+    workers: u32,
+    requests: u32,
 ) -> SessionEnd
+    requires some { 1 ≤ workers }
+    requires most { workers ≤ MOST_WORKERS }
     ensures session { (start : State) → Keeps library.old start → Session start result.how result.answered
         (S.shown source.old) (S.shown source.new) (K.shown sink.old) (K.shown sink.new)
         (world library.old (D.shown keeper.old) (V.shown vault.old))
@@ -103,7 +115,17 @@ pub fn session<S: Source, K: Sink, D: Keeper, V: Vault>(
             answered: 0,
         };
     }
-    let served = serve(alloc, library, keeper, vault, taken.bytes.as_slice(), sink);
+    let served = serve::<R, K, D, V, Brand>(
+        rt,
+        alloc,
+        library,
+        keeper,
+        vault,
+        taken.bytes.as_slice(),
+        sink,
+        workers,
+        Blank::new(1),
+    );
     SessionEnd {
         how: end_after(served.stop, taken.end, sink),
         answered: served.answered,
@@ -140,16 +162,25 @@ fn end_by<K: Sink>(refusal: &[u8], sink: &mut K) -> How
     }
 }
 
-/// Answers the requests of an input in order, up to what no request begins.
-fn serve<K: Sink, D: Keeper, V: Vault>(
+/// Answers the requests of an input in order, up to what no request begins. Its counter of steps is of
+/// the blank's ledger.
+fn serve<R: Threads + Sync, K: Sink, D: Keeper, V: Vault, L: Ledger>(
+    rt: &R,
     alloc: Global,
     library: &mut Library,
     keeper: &mut D,
     vault: &mut V,
     input: &[u8],
     sink: &mut K,
+    workers: u32,
+    blank: Blank,
 ) -> Served
-    requires { length input.now ≤ input_limit }
+    requires short { length input.now ≤ input_limit }
+    requires some { 1 ≤ workers }
+    requires most { workers ≤ MOST_WORKERS }
+    requires name { blank.name ≡ L.name }
+    requires parts { blank.parts ≡ L.parts }
+    requires share { 0 < blank.parts }
     ensures stops { (start : State) → Keeps library.old start → Stops start input.now result.stop result.answered
         (K.shown sink.old) (K.shown sink.new)
         (world library.old (D.shown keeper.old) (V.shown vault.old))
@@ -158,10 +189,13 @@ fn serve<K: Sink, D: Keeper, V: Vault>(
     ensures later { KeepsFaults (world library.old (D.shown keeper.old) (V.shown vault.old))
         (world library.new (D.shown keeper.new) (V.shown vault.new)) }
 {
+    let mut steps: Steps<L> = Steps::new(blank);
     let mut rest = input;
     let mut answered = 0u32;
     'requests: loop {
-        match serve_next(alloc, library, keeper, vault, rest, sink) {
+        match serve_next(
+            rt, alloc, library, keeper, vault, rest, sink, workers, &mut steps,
+        ) {
             Turn::Answered(end) => {
                 answered += 1;
                 rest = rest.split_at(end).1;
@@ -172,14 +206,19 @@ fn serve<K: Sink, D: Keeper, V: Vault>(
 }
 
 /// Answers the request at the front of the bytes, and writes its reply.
-fn serve_next<K: Sink, D: Keeper, V: Vault>(
+fn serve_next<R: Threads + Sync, K: Sink, D: Keeper, V: Vault, L: Ledger>(
+    rt: &R,
     alloc: Global,
     library: &mut Library,
     keeper: &mut D,
     vault: &mut V,
     bytes: &[u8],
     sink: &mut K,
+    workers: u32,
+    steps: &mut Steps<L>,
 ) -> Turn
+    requires some { 1 ≤ workers }
+    requires most { workers ≤ MOST_WORKERS }
     ensures turns { (s : State) → Keeps library.old s → Turns s bytes.now result (K.shown sink.old) (K.shown sink.new)
         (world library.old (D.shown keeper.old) (V.shown vault.old))
         (world library.new (D.shown keeper.new) (V.shown vault.new)) }
@@ -195,7 +234,9 @@ fn serve_next<K: Sink, D: Keeper, V: Vault>(
             let file = &bytes[body.start..body.end];
             turn_of(
                 body.end,
-                serve_import(alloc, library, keeper, vault, file, sink),
+                serve_import(
+                    rt, alloc, library, keeper, vault, file, sink, workers, steps,
+                ),
             )
         }
         Framed::Question { question, end } => {
@@ -217,14 +258,19 @@ fn turn_of(end: usize, written: Result<(), Outside>) -> Turn
 }
 
 /// Answers an import, and writes its reply.
-fn serve_import<K: Sink, D: Keeper, V: Vault>(
+fn serve_import<R: Threads + Sync, K: Sink, D: Keeper, V: Vault, L: Ledger>(
+    rt: &R,
     alloc: Global,
     library: &mut Library,
     keeper: &mut D,
     vault: &mut V,
     file: &[u8],
     sink: &mut K,
+    workers: u32,
+    steps: &mut Steps<L>,
 ) -> Result<(), Outside>
+    requires some { 1 ≤ workers }
+    requires most { workers ≤ MOST_WORKERS }
     ensures ok { (s : State) → Keeps library.old s → OnOk result
         (Replied s (change (record { command = Command.Import file.now })) (K.shown sink.old) (K.shown sink.new)
         (world library.old (D.shown keeper.old) (V.shown vault.old))
@@ -237,7 +283,7 @@ fn serve_import<K: Sink, D: Keeper, V: Vault>(
     ensures later { KeepsFaults (world library.old (D.shown keeper.old) (V.shown vault.old))
         (world library.new (D.shown keeper.new) (V.shown vault.new)) }
 {
-    let given = answer_import(alloc, library, file, keeper, vault);
+    let given = answer_import(rt, alloc, library, file, keeper, vault, workers, steps);
     write_given(alloc, &given, sink)
 }
 

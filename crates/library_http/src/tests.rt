@@ -203,12 +203,15 @@ fn serves_sessions(rt: HostRuntime) -> Result<(), Fail> {
             return Err("the library opens".into());
         };
         let end = session(
+            &rt,
             alloc,
             &mut library,
             &mut keeper,
             &mut vault,
             &mut source,
             &mut sink,
+            4,
+            1_000_000,
         );
         assert_eq!(rt; end, SessionEnd { how, answered }, "{failing:?}");
         assert_eq!(rt; sink.written(), want.as_bytes(), "{failing:?}");

@@ -1,4 +1,5 @@
 pub mod Runs
+pub mod WorkedNames
 pub mod Imports
 pub mod Measuring
 pub mod Readings

@@ -14,7 +14,7 @@ use Rattle.lib_base.specs.declared.files.Summary.{Summary}
 use Rattle.file_model.specs.Pcm.{Pcm}
 use Rattle.file_model.proofs.Rows.{four_frames, four_samples, sixteen_bits, four_frames_read}
 use Rattle.std.specs.Prelude.{negsuc}
-use Rattle.json.specs.Print.{escape_byte}
+use Rattle.serde_json.proofs.OnLiterals.{serde_json_on_literals}
 use Rattle.sound_model.specs.Levels.{IsLevel, entry, hundredths}
 use Rattle.sound_model.specs.Peaks.{scaled}
 use Rattle.sound_model.specs.Texts.{millionths}
@@ -94,7 +94,7 @@ pub spelled-recording_reply : spelled false (recording_reply 201 row_recording)
     ≡ codes "HTTP/1.1 201 Created" ++ 13 ∷ 10 ∷ codes "Content-Type: application/json"
     ++ 13 ∷ 10 ∷ codes "Content-Length: 149"
     ++ 13 ∷ 10 ∷ 13 ∷ 10 ∷ codes "{\"channels\":1,\"depth\":16,\"frames\":4,\"gain\":null,\"id\":1,\"loudness\":null,\"momentary\":null,\"peak\":\"0.537233\",\"range\":null,\"short\":null,\"true_peak\":-540}"
-unfolding digits millionths escape_byte
+unfolding serde_json_on_literals digits millionths
 spelled-recording_reply = refl
 
 -- The body of the refusal of a file whose size field is wrong.
@@ -365,13 +365,13 @@ RequestsOf-nothing = inl (omega arith, ([], refl, refl))
 pub import_verdict-accepts : import_verdict empty_state (four_frames 1) (measured row_sound row_summary)
     ≡ accepts (json 201 (codes "{\"channels\":1,\"depth\":16,\"frames\":4,\"gain\":null,\"id\":1,\"loudness\":null,\"momentary\":null,\"peak\":\"0.537233\",\"range\":null,\"short\":null,\"true_peak\":-540}"))
     (record { next_album = 1; next_recording = 2; next_take = 2; recordings = row_recording ∷ [] })
-unfolding digits millionths escape_byte
+unfolding serde_json_on_literals digits millionths
 import_verdict-accepts = refl
 
 -- From the state that it leads to, a question after recording 1 is answered with the same body.
 pub question_reply-imported : question_reply (imported empty_state (four_frames 1) row_sound row_summary) (about.Recording 1)
     ≡ json 200 (codes "{\"channels\":1,\"depth\":16,\"frames\":4,\"gain\":null,\"id\":1,\"loudness\":null,\"momentary\":null,\"peak\":\"0.537233\",\"range\":null,\"short\":null,\"true_peak\":-540}")
-unfolding digits millionths escape_byte
+unfolding serde_json_on_literals digits millionths
 question_reply-imported = refl
 
 -- Another one finds nothing.
@@ -414,5 +414,5 @@ pub import_verdict-last : import_verdict (record row_full { next_recording = 214
       next_take = 2;
       recordings = record row_recording { id = 2147483646 } ∷ [];
     })
-unfolding digits millionths escape_byte
+unfolding serde_json_on_literals digits millionths
 import_verdict-last = refl

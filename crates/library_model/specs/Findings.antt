@@ -1,6 +1,7 @@
 -- What an imported file is found to be, and the levels that are measured of it.
 use Rattle.std.specs.Prelude.{ℕ, List}
 use Rattle.lib_base.specs.declared.outcomes.Rule.{Rule}
+use Rattle.lib_base.specs.declared.files.Measured.{Measured}
 use Rattle.lib_base.specs.declared.files.Summary.{Summary}
 use Rattle.file_model.specs.Pcm.{Pcm}
 use Rattle.file_model.specs.Reading.{Reads, accepted, broken}
@@ -8,6 +9,11 @@ use Rattle.sound_model.specs.Blocks.{blocks_of, windows_of}
 use Rattle.sound_model.specs.Peaks.{peak_of}
 use Rattle.sound_model.specs.Segments.{energies}
 use Rattle.sound_model.specs.Summaries.{Summarises}
+use Rattle.sound_model.specs.Summaries as summaries
+
+-- what is measured of a sound
+abbrev pub measured_of : Pcm → Measured
+measured_of sound = summaries.measured sound.depth sound.frames sound.lists
 
 -- the weighted energies of the segments of a sound
 abbrev pub energies_of : Pcm → List ℕ

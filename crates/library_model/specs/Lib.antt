@@ -1,7 +1,9 @@
 pub mod Asked
+pub mod Bodies
 pub mod Findings
 pub mod Framing
 pub mod Machine
+pub mod Named
 pub mod Refusals
 pub mod Replies
 pub mod Stands

@@ -1,5 +1,5 @@
 -- The library as a machine: how it answers a request, and where it goes from there.
-use Rattle.std.specs.Prelude.{◌≡◌, ◌+◌, ◌||◌, ◌==◌, ℕ, List, [], ◌∷◌, length, nat_le, Option, None, Some, if◌then◌else◌, ⊤}
+use Rattle.std.specs.Prelude.{◌≡◌, ◌+◌, ◌||◌, ◌==◌, ℕ, List, [], ◌∷◌, nat_le, Option, None, Some, if◌then◌else◌, ⊤}
 use Rattle.std.specs.List.{find}
 use Rattle.lib_base.specs.declared.files.Summary.{Summary}
 use Rattle.file_model.specs.Pcm.{Pcm}
@@ -11,8 +11,10 @@ use Rattle.library_model.specs.declared.messages.Question.TheVariants as about
 use Rattle.library_model.specs.declared.messages.Reply.{Reply}
 use Rattle.library_model.specs.declared.refusals.Refusal.TheVariants.{NoRecording, Ids, Vault, Keeper, Memory}
 use Rattle.library_model.specs.Asked.{Asked, change, question}
+use Rattle.library_model.specs.Bodies.{row_reply}
 use Rattle.library_model.specs.Findings.{Finding, Finds, measured, broken_by}
-use Rattle.library_model.specs.Replies.{json, recording_text, format_refusal, refusal}
+use Rattle.library_model.specs.Replies.{format_refusal, refusal}
+use Rattle.library_model.specs.Stands.{recording_row}
 use Rattle.library_model.specs.State.{Recording, State, numbers_end, recording_before}
 
 -- a request is answered and the state stays, or it is accepted with a reply and the state that it leads to
@@ -20,9 +22,9 @@ pub data Verdict : Type 0 where
   stays : Reply → Verdict
   accepts : Reply → State → Verdict
 
--- what is replied about a recording
+-- what is replied about a recording, as its row says
 abbrev pub recording_reply : ℕ → Recording → Reply
-recording_reply status r = json status (recording_text r.id (length r.sound.lists) r.sound.depth r.summary)
+recording_reply status r = row_reply status (recording_row r)
 
 -- the recording that an import makes, under the next numbers
 abbrev pub new_recording : State → List ℕ → Pcm → Summary → Recording

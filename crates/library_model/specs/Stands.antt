@@ -1,8 +1,10 @@
 -- What tables and blobs stand for.
-use Rattle.std.specs.Prelude.{◌≡◌, ℕ, List, [], None, Some, length, map, fold}
+use Rattle.std.specs.Prelude.{◌≡◌, ℕ, List, [], Option, None, Some, map, fold}
 use Rattle.std.specs.List.{AllByRecursion}
 use Rattle.md5.specs.Md5.{md5}
+use Rattle.lib_base.specs.declared.files.Kind.{Kind}
 use Rattle.lib_base.specs.declared.files.Kind.TheVariants.{Wave}
+use Rattle.lib_base.specs.declared.files.Measured.{Measured}
 use Rattle.lib_base.specs.declared.files.Summary.{Summary}
 use Rattle.keeper_store.specs.Blobs.{Blobs}
 use Rattle.keeper_store.specs.declared.contents.Tables.{Tables}
@@ -10,30 +12,35 @@ use Rattle.keeper_store.specs.declared.row_types.RecordingRow.{RecordingRow}
 use Rattle.keeper_store.specs.declared.row_types.SegmentRow.{SegmentRow}
 use Rattle.keeper_store.specs.EnergyBytes.{row_bytes}
 use Rattle.keeper_store.specs.Puts.{put, segments_less}
-use Rattle.library_model.specs.Findings.{energies_of}
+use Rattle.library_model.specs.Findings.{measured_of}
 use Rattle.library_model.specs.State.{Recording, State, IsValid}
 
--- the row of a wave file's recording: its id and take, its channels, the bits of a sample, the MD5 of the file (RFC 1321), its levels
-abbrev pub wave_row : ℕ → ℕ → ℕ → ℕ → List ℕ → Summary → RecordingRow
-wave_row id take channels depth file summary = record {
+-- The row of a recording: its id, the album that it is in, its name, its take, and the MD5 of its file (RFC 1321), beside its
+-- channels, the bits of a sample, and its levels. Only this word writes such a row.
+abbrev pub row_of : ℕ → Option ℕ → List ℕ → ℕ → Kind → List ℕ → Measured → Summary → RecordingRow
+row_of id album name take kind digest m summary = record {
   id = id;
-  album = None;
-  name = [];
+  album = album;
+  name = name;
   take = take;
-  kind = Wave;
-  channels = channels;
-  depth = depth;
-  digest = md5 file;
+  kind = kind;
+  channels = m.channels;
+  depth = m.depth;
+  digest = digest;
   summary = summary;
 }
 
--- the row of a recording
+-- the row of a recording: one of a wave file, in no album, with no name
 abbrev pub recording_row : Recording → RecordingRow
-recording_row r = wave_row r.id r.take (length r.sound.lists) r.sound.depth r.file r.summary
+recording_row r = row_of r.id None [] r.take Wave (md5 r.file) (measured_of r.sound) r.summary
 
--- the row of the energies of a recording's segments, 11 bytes each
+-- the row of the energies of a take's segments, 11 bytes each; only this word writes such a row
+abbrev pub segments_of : ℕ → Measured → SegmentRow
+segments_of take m = record { take = take; energies = row_bytes m.energies }
+
+-- that of a recording
 abbrev pub segment_row : Recording → SegmentRow
-segment_row r = record { take = r.take; energies = row_bytes (energies_of r.sound) }
+segment_row r = segments_of r.take (measured_of r.sound)
 
 -- the rows of the segments of recordings, each put in its place
 abbrev pub segment_rows : List Recording → List SegmentRow

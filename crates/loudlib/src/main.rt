@@ -36,6 +36,7 @@ fn run_words(rt: &HostRuntime, alloc: Global) -> Result<u8, Memory> {
     let mut vault = MemVault::new(alloc, Vec::new(alloc));
     let mut door = MemDoor::new(alloc, Vec::new(alloc), Vec::new(alloc))?;
     Ok(run(
+        rt,
         alloc,
         words.as_slice(),
         &mut source,

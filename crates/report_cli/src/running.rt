@@ -14,6 +14,13 @@ use keeper_store::{Keeper, Vault};
 use lib_base::{Door, Memory, Outside, Sink, Source, write_all};
 use library_http::session;
 use std::alloc::Global;
+use std::thread::Threads;
+
+/// How many workers measure a sound.
+const WORKERS: u32 = 4;
+
+/// How many requests a session answers at most.
+const REQUESTS: u32 = 1_000_000;
 
 /// The line for words that are no command.
 const USAGE: &[u8] = b"usage: loudlib session, serve, report, audit, trial or tag\n";
@@ -23,7 +30,8 @@ const USAGE: &[u8] = b"usage: loudlib session, serve, report, audit, trial or ta
 /// `session` opens the library of the keeper's tables, reads the source to its end, answers the
 /// requests in it in order, and writes their replies to the sink. Other words are no command. No
 /// command uses the door yet.
-pub fn run<S: Source, K: Sink, D: Keeper, V: Vault, O: Door>(
+pub fn run<R: Threads + Sync, S: Source, K: Sink, D: Keeper, V: Vault, O: Door>(
+    rt: &R,
     alloc: Global,
     words: &[String],
     source: &mut S,
@@ -48,14 +56,15 @@ pub fn run<S: Source, K: Sink, D: Keeper, V: Vault, O: Door>(
     ensures none_out { (O.shown door.new).is_out ≡ false }
 {
     if is_session(words) {
-        run_session(alloc, source, sink, keeper, vault).code()
+        run_session(rt, alloc, source, sink, keeper, vault).code()
     } else {
         print(sink, USAGE, Status::Usage).code()
     }
 }
 
 /// Opens the library, and answers the session.
-fn run_session<S: Source, K: Sink, D: Keeper, V: Vault>(
+fn run_session<R: Threads + Sync, S: Source, K: Sink, D: Keeper, V: Vault>(
+    rt: &R,
     alloc: Global,
     source: &mut S,
     sink: &mut K,
@@ -74,7 +83,7 @@ fn run_session<S: Source, K: Sink, D: Keeper, V: Vault>(
     ensures bad_row_cause { result ≡ Status.BadRow → IfSome (D.shown keeper.old).tables (λ t. IsSome (first_bad t)) }
 {
     match Library::open(alloc, keeper) {
-        Ok(library) => serve(alloc, library, source, sink, keeper, vault),
+        Ok(library) => serve(rt, alloc, library, source, sink, keeper, vault),
         Err(OpenRefusal::KeeperFault) => Status::KeeperFault,
         Err(OpenRefusal::BadRow(row)) => print_bad_row(alloc, row, sink),
         Err(OpenRefusal::Memory) => Status::Memory,
@@ -82,7 +91,8 @@ fn run_session<S: Source, K: Sink, D: Keeper, V: Vault>(
 }
 
 /// Runs a session over a library that was opened.
-fn serve<S: Source, K: Sink, D: Keeper, V: Vault>(
+fn serve<R: Threads + Sync, S: Source, K: Sink, D: Keeper, V: Vault>(
+    rt: &R,
     alloc: Global,
     mut library: Library,
     source: &mut S,
@@ -99,7 +109,17 @@ fn serve<S: Source, K: Sink, D: Keeper, V: Vault>(
     ensures of_keeper { (D.shown keeper.old).faults ≤ (D.shown keeper.new).faults }
     ensures of_vault { (V.shown vault.old).faults ≤ (V.shown vault.new).faults }
 {
-    let end = session(alloc, &mut library, keeper, vault, source, sink);
+    let end = session(
+        rt,
+        alloc,
+        &mut library,
+        keeper,
+        vault,
+        source,
+        sink,
+        WORKERS,
+        REQUESTS,
+    );
     Status::of_session(end.how)
 }
 

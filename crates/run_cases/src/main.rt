@@ -18,13 +18,14 @@ use crate::runs::run_case;
 use anyhow::{Context, Result, bail};
 use std::alloc::Global;
 use std::io;
+use std::thread::Threads;
 
 fn main(rt: HostRuntime) -> Result<()> {
     let alloc = rt.alloc();
     let text = io::read_to_string(alloc, rt.reader())?;
     let mut told = Told::new(alloc);
     for block in text.as_str().split("\n\n") {
-        rt.print(told.obey(alloc, block)?)?;
+        rt.print(told.obey(&rt, alloc, block)?)?;
     }
     Ok(())
 }
@@ -45,7 +46,7 @@ impl<'a> Told<'a> {
     }
 
     /// Makes the file of a block, or runs its case and answers the report.
-    fn obey(&mut self, alloc: Global, block: &'a str) -> Result<String> {
+    fn obey<R: Threads + Sync>(&mut self, rt: &R, alloc: Global, block: &'a str) -> Result<String> {
         let mut lines: Vec<&'a str> = block
             .lines()
             .filter(|line| !line.starts_with('#') && !line.is_empty())
@@ -61,7 +62,7 @@ impl<'a> Told<'a> {
                 Ok(String::new(alloc))
             }
             Some(("case", name)) => {
-                let report = self.run(alloc, name, lines.as_slice()).context(head)?;
+                let report = self.run(rt, alloc, name, lines.as_slice()).context(head)?;
                 self.cases.push(Lines { name, lines })?;
                 Ok(report)
             }
@@ -70,9 +71,15 @@ impl<'a> Told<'a> {
     }
 
     /// Runs the case of the lines and answers the report.
-    fn run(&self, alloc: Global, name: &str, lines: &[&str]) -> Result<String> {
+    fn run<R: Threads + Sync>(
+        &self,
+        rt: &R,
+        alloc: Global,
+        name: &str,
+        lines: &[&str],
+    ) -> Result<String> {
         let (files, cases) = (self.files.as_slice(), self.cases.as_slice());
         let case = read_case(alloc, lines, cases, files)?;
-        report(alloc, name, &run_case(alloc, case)?)
+        report(alloc, name, &run_case(rt, alloc, case)?)
     }
 }

@@ -7,6 +7,7 @@ use keeper_store::{MemKeeper, MemVault, Tables};
 use lib_base::{Bytes, MemDoor, MemSink, MemSource};
 use report_cli::run;
 use std::alloc::Global;
+use std::thread::Threads;
 
 /// The exit status of a run, and the objects that it leaves.
 #[derive(Drop)]
@@ -18,7 +19,7 @@ pub struct Outcome {
 }
 
 /// Runs a case.
-pub fn run_case(alloc: Global, case: Case) -> Result<Outcome> {
+pub fn run_case<R: Threads + Sync>(rt: &R, alloc: Global, case: Case) -> Result<Outcome> {
     let Case {
         words,
         input,
@@ -44,6 +45,7 @@ pub fn run_case(alloc: Global, case: Case) -> Result<Outcome> {
     let mut keeper = MemKeeper::new(tables, keeper);
     let mut vault = MemVault::new(alloc, vault);
     let status = run_over(
+        rt,
         alloc,
         words.as_slice(),
         &mut source,
@@ -60,7 +62,8 @@ pub fn run_case(alloc: Global, case: Case) -> Result<Outcome> {
 }
 
 /// Runs the words over these objects, and a door at which nobody waits.
-fn run_over(
+fn run_over<R: Threads + Sync>(
+    rt: &R,
     alloc: Global,
     words: &[String],
     source: &mut Pieces<MemSource>,
@@ -69,7 +72,7 @@ fn run_over(
     vault: &mut MemVault,
 ) -> Result<u8> {
     match MemDoor::new(alloc, Vec::new(alloc), Vec::new(alloc)) {
-        Ok(mut door) => Ok(run(alloc, words, source, sink, keeper, vault, &mut door)),
+        Ok(mut door) => Ok(run(rt, alloc, words, source, sink, keeper, vault, &mut door)),
         Err(_) => bail!("want of memory"),
     }
 }

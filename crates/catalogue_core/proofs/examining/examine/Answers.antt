@@ -8,13 +8,13 @@ use Rattle.catalogue_core.proofs.Summing.{wave_summable}
 use Rattle.catalogue_core.proofs.examining.examine.Goals as goal
 
 pub summary_of-requires : goal.summary_of-requires
-summary_of-requires c =
+summary_of-requires g c =
     let read = c.in-Ok.ensures.ok in
     subst IsSummable (sym (c.in_ok-measured-in-Ok.ensures read.sound (read.chunks, read.reads)))
     (wave_summable c.args.file.now read.chunks read.sound (λ i. (c.type_inv.file i).fits) read.reads)
 
 pub returns-in_ok-summary-in-Ok : goal.returns-in_ok-summary-in-Ok
-returns-in_ok-summary-in-Ok c =
+returns-in_ok-summary-in-Ok g c =
     let read = c.in-Ok.ensures.ok in
     let wave : IsWave c.args.file.now read.sound = (read.chunks, read.reads) in
     let is = c.in_ok-measured-in-Ok.ensures read.sound wave in

@@ -49,4 +49,4 @@ returns-in-Stopped-clause-stops g c = λ start keeps.
     (world c.args.library.now (g.D.Keeper.shown c.args.keeper.now) (g.V.Vault.shown c.args.vault.now))
     (world c.requests.library (g.D.Keeper.shown c.requests.keeper) (g.V.Vault.shown c.requests.vault))
     (world c.serve_next.new.library (g.D.Keeper.shown c.serve_next.new.keeper) (g.V.Vault.shown c.serve_next.new.vault))
-    c.requires progress (c.in-Stopped.ensures.turns progress.serves.state progress.serves.leads.keeps)
+    c.requires.short progress (c.in-Stopped.ensures.turns progress.serves.state progress.serves.leads.keeps)

@@ -1,8 +1,10 @@
 //! The bodies of replies.
 ghost use Rattle.std.specs.Prelude.{◌≡◌, IfOk, string_bytes};
-ghost use Rattle.catalogue_core.specs.Objects.{recording_object, row_reply, row_text};
 ghost use Rattle.serde_json.specs.View.{view};
+ghost use Rattle.serde_json.specs.Written.{compact_text};
+ghost use Rattle.library_model.specs.Bodies.{recording_data, row_reply};
 ghost use Rattle.library_model.specs.Replies as model;
+ghost use Rattle.sound_model.specs.Texts.{peak_text};
 
 use db_table::peak_text;
 use keeper_store::RecordingRow;
@@ -30,7 +32,7 @@ pub fn refuse_format(alloc: Global, broken: Broken) -> Result<Reply, Memory>
     Ok(json_reply(Refusal::Format.status(), text))
 }
 
-/// What is replied about the recording of a row.
+/// What is replied about the recording of a row, with that status.
 pub fn describe_row(alloc: Global, status: u16, row: &RecordingRow) -> Result<Reply, Memory>
     ensures { IfOk result (λ reply. reply ≡ row_reply status row.now) }
 {
@@ -39,7 +41,7 @@ pub fn describe_row(alloc: Global, status: u16, row: &RecordingRow) -> Result<Re
 }
 
 fn recording_text(alloc: Global, row: &RecordingRow) -> Result<String, Memory>
-    ensures { IfOk result (λ text. string_bytes text ≡ row_text row.now) }
+    ensures { IfOk result (λ text. string_bytes text ≡ compact_text (recording_data row.now)) }
 {
     let peak = peak_text(alloc, row.summary.peak)?;
     let value = recording_value(alloc, row, peak.as_str())?;
@@ -47,8 +49,10 @@ fn recording_text(alloc: Global, row: &RecordingRow) -> Result<String, Memory>
     Ok(text)
 }
 
+/// The recording of a row, of which that is the peak's text.
 fn recording_value(alloc: Global, row: &RecordingRow, peak: &str) -> Result<Value, AllocError>
-    ensures { IfOk result (λ value. view value ≡ recording_object row.now peak.now) }
+    requires { peak.now ≡ peak_text row.now.summary.peak }
+    ensures { IfOk result (λ value. view value ≡ recording_data row.now) }
 {
     let summary = row.summary;
     json!(in alloc; {

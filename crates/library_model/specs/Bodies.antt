@@ -1,19 +1,21 @@
--- Replies as JSON's objects.
-use Rattle.std.specs.Prelude.{ℕ, ℤ, pos, negsuc, List, codes, Option, None, Some}
-use Rattle.serde_json.specs.Data.{Data, null, number, unsigned, negative, string, object, member, no_members}
+-- Bodies of replies in JSON (RFC 8259): one line, members in ascending order of their keys.
+use Rattle.std.specs.Prelude.{ℕ, ℤ, codes, Option, None, Some}
+use Rattle.serde_json.specs.Data.{Data, null, number, unsigned, string, object, member, no_members}
+use Rattle.serde_json.specs.Find.{of_integer}
+use Rattle.serde_json.specs.Written.{compact_text}
+use Rattle.sound_model.specs.Texts.{peak_text}
 use Rattle.keeper_store.specs.declared.row_types.RecordingRow.{RecordingRow}
 use Rattle.library_model.specs.declared.messages.Reply.{Reply}
-use Rattle.library_model.specs.Replies.{json, recording_text}
+use Rattle.library_model.specs.Replies.{json}
 
--- a level, or null where it is absent
+-- a level in hundredths, or null where it is absent
 abbrev pub level_data : Option ℤ → Data
 level_data None = null
-level_data (Some (pos n)) = number (unsigned n)
-level_data (Some (negsuc n)) = number (negative (negsuc n))
+level_data (Some level) = number (of_integer level)
 
--- the recording of a row, with the text of its peak
-abbrev pub recording_object : RecordingRow → List ℕ → Data
-recording_object r peak =
+-- a recording as it is answered: its channels, the bits of a sample, its frames, and its levels; the peak is a text, 1 being full scale
+abbrev pub recording_data : RecordingRow → Data
+recording_data r =
     object (member (codes "channels") (number (unsigned r.channels))
     (member (codes "depth") (number (unsigned r.depth))
     (member (codes "frames") (number (unsigned r.summary.frames))
@@ -21,15 +23,11 @@ recording_object r peak =
     (member (codes "id") (number (unsigned r.id))
     (member (codes "loudness") (level_data r.summary.loudness)
     (member (codes "momentary") (level_data r.summary.momentary)
-    (member (codes "peak") (string peak)
+    (member (codes "peak") (string (peak_text r.summary.peak))
     (member (codes "range") (level_data r.summary.range)
     (member (codes "short") (level_data r.summary.short_term)
     (member (codes "true_peak") (level_data r.summary.true_peak) no_members)))))))))))
 
--- the text of the recording of a row
-abbrev pub row_text : RecordingRow → List ℕ
-row_text r = recording_text r.id r.channels r.depth r.summary
-
 -- what is replied about the recording of a row
 abbrev pub row_reply : ℕ → RecordingRow → Reply
-row_reply status r = json status (row_text r)
+row_reply status r = json status (compact_text (recording_data r))

@@ -2,7 +2,7 @@ use Rattle.std.proofs.Common.{◌≡◌, ◌∙◌, ap, append_assoc, string_byt
 use Rattle.library_model.specs.declared.refusals.Refusal.TheVariants.{Format}
 use Rattle.library_model.specs.Refusals.{status_of}
 use Rattle.library_model.specs.Replies.{json, format_refusal}
-use Rattle.catalogue_core.proofs.reply_texts.refuse_format.Goals as goal
+use Rattle.json_bodies.proofs.replies.refuse_format.Goals as goal
 
 pub returns : goal.returns
 returns c =
