@@ -21,19 +21,29 @@ HoldsAgain old new = (t : Tables) → Holds old t → Holds new t
 abbrev pub HoldsChanged : List Change → Library → Library → Type 0
 HoldsChanged changes old new = (t : Tables) → Holds old t → Holds new (changed_all changes t)
 
--- The change is made, with its reply; or the keeper's count rose, or memory was wanting with no fault counted, and nothing
--- changed.
-abbrev pub Settles : Prepared → Library → Library → ℕ → ℕ → Reply → Type 0
-Settles p old new before now reply =
-    ((reply ≡ p.reply) × HoldsChanged p.batch.changes old new)
-    ⊎ (((reply ≡ refusal Keeper) × HoldsAgain old new × Rose before now)
-    ⊎ ((reply ≡ refusal Memory) × HoldsAgain old new × (now ≡ before)))
+-- The change was made, with its reply.
+pub record IsMade (p : Prepared) (library committed : Library) (old new : KeeperView) (reply : Reply) : Type 0 where
+  pub reply_is : reply ≡ p.reply
+  pub holds : HoldsChanged p.batch.changes library committed
+  pub tables : Goes (λ t u. u ≡ changed_all p.batch.changes t) old.tables new.tables
 
--- What a commit does to the library and the keeper: the change is settled, with one `apply` whatever it answers. Where the
--- library holds the keeper's tables, it holds them again.
+-- Nothing was changed.
+pub record IsLeft (library committed : Library) (old new : KeeperView) : Type 0 where
+  pub holds : HoldsAgain library committed
+  pub tables : Goes (λ t u. u ≡ t) old.tables new.tables
+
+-- The change was made, with its reply; or the keeper's count rose, or memory was wanting with no fault counted, and nothing
+-- was changed.
+abbrev pub Settles : Prepared → Library → Library → KeeperView → KeeperView → Reply → Type 0
+Settles p library committed old new reply =
+    IsMade p library committed old new reply
+    ⊎ ((IsLeft library committed old new × (reply ≡ refusal Keeper) × Rose old.faults new.faults)
+    ⊎ (IsLeft library committed old new × (reply ≡ refusal Memory) × (new.faults ≡ old.faults)))
+
+-- What a commit does to the library and the keeper: the change is settled, with one `apply` whatever it
+-- answers.
 pub record Commits (p : Prepared) (library committed : Library) (old new : KeeperView) (reply : Reply) : Type 0 where
-  pub settles : Settles p library committed old.faults new.faults reply
-  pub tables : Goes (λ t u. Holds library t → Holds committed u) old.tables new.tables
+  pub settles : Settles p library committed old new reply
   pub later : old.faults ≤ new.faults
   pub applies : RoseByOne old.applies new.applies
 

@@ -1,4 +1,4 @@
-use Rattle.std.proofs.Common.{Option, IfOk, subst}
+use Rattle.std.proofs.Common.{◌≡◌, Option, IfOk, subst}
 use Rattle.keeper_store.specs.declared.row_types.RecordingRow.{RecordingRow}
 use Rattle.catalogue_core.specs.Asking.{found_row_reply}
 use Rattle.catalogue_core.proofs.asking.ask_recording.Goals as goal
