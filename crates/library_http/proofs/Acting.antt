@@ -6,6 +6,7 @@ use Rattle.lib_base.specs.declared.outcomes.Memory.{Memory}
 use Rattle.lib_base.specs.Faults.{Rose}
 use Rattle.keeper_store.specs.Blobs.{Blobs, OthersKept}
 use Rattle.keeper_store.specs.Changes.{changed_all}
+use Rattle.keeper_store.specs.declared.contents.NextNumbers.{NextNumbers}
 use Rattle.keeper_store.specs.declared.contents.Tables.{Tables}
 use Rattle.keeper_store.specs.Goes.{Goes}
 use Rattle.keeper_store.specs.Keepers.{KeeperView}
@@ -23,11 +24,11 @@ use Rattle.library_model.specs.Replies.{refusal}
 use Rattle.library_model.specs.Stands.{tables_of}
 use Rattle.library_model.specs.State.{Recording, State}
 use Rattle.library_model.proofs.Imports.{HoldsFiles-kept}
-use Rattle.catalogue_core.specs.Committing.{Commits}
+use Rattle.catalogue_core.specs.Committing.{Commits, IsMade, IsLeft, HoldsAgain}
 use Rattle.catalogue_core.specs.declared.libraries.Library.{Library}
 use Rattle.catalogue_core.specs.declared.prepared.Prepared.{Prepared}
 use Rattle.catalogue_core.specs.declared.prepared.Staged.{Staged}
-use Rattle.catalogue_core.specs.Kept.{kept_tables, Keeps}
+use Rattle.catalogue_core.specs.Kept.{Holds, Keeps, numbers_of}
 use Rattle.catalogue_core.specs.Staging.{Prepares, RefusesBy, HoldsFileOf, Stages}
 use Rattle.library_http.specs.Sessions.{Acts, Counts, Leads, IsSettled, reply_given}
 use Rattle.library_http.specs.World.{World, world, RoseBy}
@@ -111,24 +112,24 @@ keys-stay take blobs = Goes-same (OthersKept take) (λ b key other. refl) blobs
 
 -- the keys of the state's next take are those of the library's
 keys-of : (s : State) (library : Library) (blobs0 blobs2 : Option Blobs) → Keeps library s
-    → Goes (OthersKept (kept_tables library).next_take) blobs0 blobs2 → Goes (OthersKept s.next_take) blobs0 blobs2
+    → Goes (OthersKept (numbers_of library).take) blobs0 blobs2 → Goes (OthersKept s.next_take) blobs0 blobs2
 keys-of s library blobs0 blobs2 keeps others =
-    subst (λ (take : ℕ). Goes (OthersKept take) blobs0 blobs2) (ap (λ (t : Tables). t.next_take) keeps.rows) others
+    subst (λ (take : ℕ). Goes (OthersKept take) blobs0 blobs2) (ap (λ (n : NextNumbers). n.take) keeps.rows.numbers) others
 
 -- a number that is one is not another
 differs_from : (m n k : ℕ) → m ≡ n → n ≢ k → m ≢ k
 differs_from m n k is differs e = differs (sym is ∙ e)
 
 -- The library keeps what it kept, and the vault changed under the next take alone: the state stays.
-Leads-kept : (s : State) (w0 w2 : World) → Keeps w0.library s → kept_tables w2.library ≡ kept_tables w0.library
-    → Goes (OthersKept (kept_tables w0.library).next_take) w0.vault.blobs w2.vault.blobs
-    → Goes (λ t u. t ≡ kept_tables w0.library → u ≡ kept_tables w2.library) w0.keeper.tables w2.keeper.tables
+Leads-kept : (s : State) (w0 w2 : World) → Keeps w0.library s → HoldsAgain w0.library w2.library
+    → Goes (OthersKept (numbers_of w0.library).take) w0.vault.blobs w2.vault.blobs
+    → Goes (λ old new. new ≡ old) w0.keeper.tables w2.keeper.tables
     → Leads s s w0 w2
-Leads-kept s w0 w2 keeps same others tables =
-    let take = ap (λ (t : Tables). t.next_take) keeps.rows in
+Leads-kept s w0 w2 keeps again others tables =
+    let take = ap (λ (n : NextNumbers). n.take) keeps.rows.numbers in
     record {
-      keeps = record { valid = keeps.valid; rows = same ∙ keeps.rows };
-      rows = Goes-weaker _ _ (λ old new f is. f (is ∙ sym keeps.rows) ∙ same ∙ keeps.rows) w0.keeper.tables w2.keeper.tables tables;
+      keeps = record { valid = keeps.valid; rows = again (tables_of s) keeps.rows };
+      rows = Goes-weaker _ _ (λ old new same is. same ∙ is) w0.keeper.tables w2.keeper.tables tables;
       files = Goes-weaker _ _ (λ old new kept held. HoldsFiles-kept s old new keeps.valid held (rw take at kept)) w0.vault.blobs w2.vault.blobs others;
     }
 
@@ -136,8 +137,8 @@ Leads-kept s w0 w2 keeps same others tables =
 Leads-staged : (s : State) (command : Command) (r : Result Staged Memory) (lib0 lib1 : Library) (keeper : KeeperView) (vault0 vault1 : VaultView)
     → Keeps lib0 s → Stages command lib0 lib1 vault0 vault1 r → Leads s s (world lib0 keeper vault0) (world lib1 keeper vault1)
 Leads-staged s command r lib0 lib1 keeper vault0 vault1 keeps stages =
-    Leads-kept s (world lib0 keeper vault0) (world lib1 keeper vault1) keeps stages.kept stages.others
-    (Goes-same (λ t u. t ≡ kept_tables lib0 → u ≡ kept_tables lib1) (λ t is. is ∙ sym stages.kept) keeper.tables)
+    Leads-kept s (world lib0 keeper vault0) (world lib1 keeper vault1) keeps stages.held stages.others
+    (Goes-same (λ t u. u ≡ t) (λ t. refl) keeper.tables)
 
 -- want of memory acts with no change
 pub Acts-memory : (s : State) (request : Request) (r : Result Staged Memory) (lib0 lib1 : Library) (keeper : KeeperView)
@@ -200,21 +201,21 @@ Acts-asked s asked reply w keeps is =
 -- a change that was made acts as the verdict says
 Acts-made : (s : State) (request : Request) (p : Prepared) (reply : Reply) (r : Result Staged Memory) (lib0 lib1 lib2 : Library)
     (keeper0 keeper2 : KeeperView) (vault0 vault2 : VaultView) → Keeps lib0 s → Stages request.command lib0 lib1 vault0 vault2 r
-    → Prepares s request p → Goes (λ _ blobs. HoldsFileOf request.command (kept_tables lib0).next_take blobs) vault0.blobs vault2.blobs
-    → Commits p lib1 lib2 keeper0 keeper2 reply
-    → reply ≡ p.reply → kept_tables lib2 ≡ changed_all p.batch.changes (kept_tables lib1)
+    → Prepares s request p → Goes (λ _ blobs. HoldsFileOf request.command (numbers_of lib0).take blobs) vault0.blobs vault2.blobs
+    → Commits p lib1 lib2 keeper0 keeper2 reply → IsMade p lib1 lib2 keeper0 keeper2 reply
     → Acts s (change request) reply (world lib0 keeper0 vault0) (world lib2 keeper2 vault2)
-Acts-made s request p reply r lib0 lib1 lib2 keeper0 keeper2 vault0 vault2 keeps stages prepares put commits is made =
-    let take = ap (λ (t : Tables). t.next_take) keeps.rows in
-    let rows : kept_tables lib2 ≡ tables_of prepares.next =
-    made ∙ ap (changed_all p.batch.changes) (stages.kept ∙ keeps.rows) ∙ prepares.rows in
+Acts-made s request p reply r lib0 lib1 lib2 keeper0 keeper2 vault0 vault2 keeps stages prepares put commits made =
+    let take = ap (λ (n : NextNumbers). n.take) keeps.rows.numbers in
+    let is = made.reply_is in
+    let rows : Holds lib2 (tables_of prepares.next) =
+    subst (Holds lib2) prepares.rows (made.holds (tables_of s) (stages.held (tables_of s) keeps.rows)) in
     let status : reply.status ≡ 201 = ap (λ (r : Reply). r.status) is ∙ prepares.granted in
     Acts-of s (change request) reply prepares.next _ _
     (record { way = as_decided (accepts p.reply prepares.next); answers = (prepares.decides, is, refl) })
     (record {
       keeps = record { valid = prepares.valid; rows = rows };
-      rows = Goes-weaker _ _ (λ old new f old_is. f (old_is ∙ sym keeps.rows ∙ sym stages.kept) ∙ rows)
-          keeper0.tables keeper2.tables commits.tables;
+      rows = Goes-weaker _ _ (λ old new changed_is old_is. changed_is ∙ ap (changed_all p.batch.changes) old_is ∙ prepares.rows)
+          keeper0.tables keeper2.tables made.tables;
       files = Goes-weaker _ _
           (λ old new both held. prepares.files old new held (rw take at both.0) (rw take at both.1))
           vault0.blobs vault2.blobs (Goes-both _ _ vault0.blobs vault2.blobs stages.others put);
@@ -226,25 +227,24 @@ Acts-made s request p reply r lib0 lib1 lib2 keeper0 keeper2 vault0 vault2 keeps
 -- what a commit answers acts
 pub Acts-committed : (s : State) (request : Request) (p : Prepared) (reply : Reply) (r : Result Staged Memory) (lib0 lib1 lib2 : Library)
     (keeper0 keeper2 : KeeperView) (vault0 vault2 : VaultView) → Keeps lib0 s → Stages request.command lib0 lib1 vault0 vault2 r
-    → Prepares s request p → Goes (λ _ blobs. HoldsFileOf request.command (kept_tables lib0).next_take blobs) vault0.blobs vault2.blobs
+    → Prepares s request p → Goes (λ _ blobs. HoldsFileOf request.command (numbers_of lib0).take blobs) vault0.blobs vault2.blobs
     → Commits p lib1 lib2 keeper0 keeper2 reply
     → Acts s (change request) reply (world lib0 keeper0 vault0) (world lib2 keeper2 vault2)
 Acts-committed s request p reply r lib0 lib1 lib2 keeper0 keeper2 vault0 vault2 keeps stages prepares put commits =
     let w0 : World = world lib0 keeper0 vault0 in
     let w2 : World = world lib2 keeper2 vault2 in
-    let back = Goes-weaker (λ t u. t ≡ kept_tables lib1 → u ≡ kept_tables lib2) (λ t u. t ≡ kept_tables lib0 → u ≡ kept_tables lib2)
-    (λ t u f is. f (is ∙ sym stages.kept)) keeper0.tables keeper2.tables commits.tables in
+    let again : IsLeft lib1 lib2 keeper0 keeper2 → HoldsAgain lib0 lib2 = λ left t holds. left.holds t (stages.held t holds) in
     elim commits.settles [
-      | inl h ↦ Acts-made s request p reply r lib0 lib1 lib2 keeper0 keeper2 vault0 vault2 keeps stages prepares put commits h.0 h.1
+      | inl h ↦ Acts-made s request p reply r lib0 lib1 lib2 keeper0 keeper2 vault0 vault2 keeps stages prepares put commits h
       | inr other ↦ elim other [
         | inl h ↦
-            let status : reply.status ≡ status_of cause.Keeper = ap (λ (r : Reply). r.status) h.0 in
+            let status : reply.status ≡ status_of cause.Keeper = ap (λ (r : Reply). r.status) h.1 in
             Acts-of s (change request) reply s _ _
             (record {
               way = keeper_failed (accepts p.reply prepares.next);
-              answers = (prepares.decides, tt, h.0, refl);
+              answers = (prepares.decides, tt, h.1, refl);
             })
-            (Leads-kept s w0 w2 keeps (h.1 ∙ stages.kept) stages.others back)
+            (Leads-kept s w0 w2 keeps (again h.0) stages.others h.0.tables)
             (record {
               vault = RoseBy-none _ _ _ (count_status-other reply (status_of cause.Vault) (differs_from _ (status_of cause.Keeper) (status_of cause.Vault) status (omega arith))) stages.later;
               keeper = RoseBy-one _ _ _ (count_status-same reply (status_of cause.Keeper) status) h.2;
@@ -252,10 +252,10 @@ Acts-committed s request p reply r lib0 lib1 lib2 keeper0 keeper2 vault0 vault2 
             (λ is. absurd is)
             (keys-of s lib0 vault0.blobs vault2.blobs keeps stages.others)
         | inr h ↦
-            let status : reply.status ≡ status_of cause.Memory = ap (λ (r : Reply). r.status) h.0 in
+            let status : reply.status ≡ status_of cause.Memory = ap (λ (r : Reply). r.status) h.1 in
             Acts-of s (change request) reply s _ _
-            (record { way = without_memory; answers = (h.0, refl) })
-            (Leads-kept s w0 w2 keeps (h.1 ∙ stages.kept) stages.others back)
+            (record { way = without_memory; answers = (h.1, refl) })
+            (Leads-kept s w0 w2 keeps (again h.0) stages.others h.0.tables)
             (Counts-neither reply _ _ (differs_from _ (status_of cause.Memory) (status_of cause.Vault) status (omega arith)) (differs_from _ (status_of cause.Memory) (status_of cause.Keeper) status (omega arith)) stages.later commits.later)
             (λ is. absurd is)
             (keys-of s lib0 vault0.blobs vault2.blobs keeps stages.others)

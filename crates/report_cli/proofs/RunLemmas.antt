@@ -17,7 +17,7 @@ use Rattle.catalogue_core.specs.declared.libraries.BadRow.{BadRow}
 use Rattle.catalogue_core.specs.declared.libraries.Library.{Library}
 use Rattle.catalogue_core.specs.declared.libraries.OpenRefusal.{OpenRefusal}
 use Rattle.catalogue_core.specs.declared.libraries.OpenRefusal.TheVariants as refusal
-use Rattle.catalogue_core.specs.Kept.{kept_tables, Keeps}
+use Rattle.catalogue_core.specs.Kept.{Holds, Keeps}
 use Rattle.catalogue_core.specs.Opening.{OpensOver, first_bad}
 use Rattle.library_http.specs.declared.serving.How.{How}
 use Rattle.library_http.specs.declared.serving.How.TheVariants as ending
@@ -29,7 +29,7 @@ use Rattle.report_cli.specs.Statuses.{code, status_of}
 use Rattle.report_cli.specs.Running.{Seen, Course, not_a_command, not_opened, served, Runs, Prints, IsCommand, IsBrokenOff, IsFixed, IsComplete, status_at, usage_line, bad_row_line}
 
 -- a library of no row keeps the empty state
-pub keeps_empty : (library : Library) → kept_tables library ≡ empty_tables → Keeps library empty_state
+pub keeps_empty : (library : Library) → Holds library empty_tables → Keeps library empty_state
 keeps_empty library h = record {
   valid = record {
     albums = (omega arith, omega arith);
@@ -43,12 +43,6 @@ keeps_empty library h = record {
   };
   rows = h;
 }
-
--- an empty library was opened over empty tables
-pub opened_empty : (told : Option Tables) (library : Library) → kept_tables library ≡ empty_tables
-    → IfSome told (λ t. OpensOver t (Ok library)) → IfSome told (λ t. t ≡ empty_tables)
-opened_empty None library empty opens = tt
-opened_empty (Some t) library empty opens = sym opens.1 ∙ empty
 
 -- what is told stays
 pub tables_stay : (told : Option Tables) → Goes (λ old new. new ≡ old) told told
