@@ -1,4 +1,3 @@
-pub mod Runs
 pub mod Imports
 pub mod Measuring
 pub mod Verdicts

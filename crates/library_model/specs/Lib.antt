@@ -1,4 +1,5 @@
 pub mod Asked
+pub mod Exchanges
 pub mod Findings
 pub mod Machine
 pub mod Refusals
