@@ -18,7 +18,8 @@ use Rattle.library_model.specs.declared.messages.Question.{Question}
 use Rattle.library_model.specs.declared.messages.Question.TheVariants as about
 use Rattle.library_model.specs.declared.refusals.Refusal.TheVariants as cause
 use Rattle.library_model.specs.Asked.{Asked, IsQuestion, change, question}
-use Rattle.library_model.specs.Machine.{Answer, AnswersBy, Way, accepts, stays, as_decided, without_memory, vault_failed, keeper_failed, count_status, question_reply, found_reply, recording_of}
+use Rattle.library_model.specs.Machine.{Answer, AnswersBy, Way, accepts, stays, as_decided, without_memory, vault_failed, keeper_failed, question_reply, found_reply, recording_of}
+use Rattle.library_model.specs.Exchanges.{exchange, counted}
 use Rattle.library_model.specs.Refusals.{status_of}
 use Rattle.library_model.specs.Replies.{refusal}
 use Rattle.library_model.specs.Stands.{tables_of}
@@ -42,12 +43,12 @@ Goes-both P Q (Some x) None p q = absurd p
 Goes-both P Q (Some x) (Some y) p q = (p, q)
 
 -- a reply of another status doesn't count
-count_status-other : (reply : Reply) (status : ℕ) → reply.status ≢ status → count_status status (reply ∷ []) ≡ 0
-count_status-other reply status differs = grind (arith, nat_tests)
+counted-other : (reply : Reply) (status : ℕ) → reply.status ≢ status → counted status reply + 0 ≡ 0
+counted-other reply status differs = grind (arith, nat_tests)
 
 -- a reply of that status counts once
-count_status-same : (reply : Reply) (status : ℕ) → reply.status ≡ status → count_status status (reply ∷ []) ≡ 1
-count_status-same reply status same = grind (arith, nat_tests)
+counted-same : (reply : Reply) (status : ℕ) → reply.status ≡ status → counted status reply + 0 ≡ 1
+counted-same reply status same = grind (arith, nat_tests)
 
 -- a test of numbers that holds says that they are equal
 tested : (m n : ℕ) → (m == n) ≡ true → m ≡ n
@@ -67,16 +68,16 @@ RoseBy-one : (many before now : ℕ) → many ≡ 1 → RoseBy 1 before now → 
 RoseBy-one many before now one rose = omega arith
 
 -- a reply that is neither `Vault` nor `Keeper` asks for no fault
-Counts-neither : (reply : Reply) (w0 w1 : World) → reply.status ≢ (status_of cause.Vault) → reply.status ≢ (status_of cause.Keeper) → w0.vault.faults ≤ w1.vault.faults
-    → w0.keeper.faults ≤ w1.keeper.faults → Counts (reply ∷ []) w0 w1
-Counts-neither reply w0 w1 vault keeper vault_later keeper_later = record {
-  vault = RoseBy-none _ _ _ (count_status-other reply (status_of cause.Vault) vault) vault_later;
-  keeper = RoseBy-none _ _ _ (count_status-other reply (status_of cause.Keeper) keeper) keeper_later;
+Counts-neither : (request : Asked) (reply : Reply) (w0 w1 : World) → reply.status ≢ (status_of cause.Vault) → reply.status ≢ (status_of cause.Keeper) → w0.vault.faults ≤ w1.vault.faults
+    → w0.keeper.faults ≤ w1.keeper.faults → Counts (exchange request reply ∷ []) w0 w1
+Counts-neither request reply w0 w1 vault keeper vault_later keeper_later = record {
+  vault = RoseBy-none _ _ _ (counted-other reply (status_of cause.Vault) vault) vault_later;
+  keeper = RoseBy-none _ _ _ (counted-other reply (status_of cause.Keeper) keeper) keeper_later;
 }
 
 -- without a fault that was counted, an answer is the one that is decided, or memory was wanting
 settled_without_faults : (s : State) (request : Asked) (reply : Reply) (next : State) (w0 w1 : World)
-    → Answer s request reply next → Counts (reply ∷ []) w0 w1 → ¬ Rose w0.vault.faults w1.vault.faults
+    → Answer s request reply next → Counts (exchange request reply ∷ []) w0 w1 → ¬ Rose w0.vault.faults w1.vault.faults
     → ¬ Rose w0.keeper.faults w1.keeper.faults → IsSettled s request reply next
 settled_without_faults s request reply next w0 w1 answer counts vault keeper = by_way answer.way answer.answers
   where
@@ -84,17 +85,17 @@ settled_without_faults s request reply next w0 w1 answer counts vault keeper = b
     by_way (as_decided verdict) answers = inl (verdict, answers)
     by_way without_memory answers = inr answers
     by_way (vault_failed verdict) answers =
-        let counted : count_status (status_of cause.Vault) (reply ∷ []) ≡ 1 =
-        count_status-same reply (status_of cause.Vault) (ap (λ (r : Reply). r.status) answers.2) in
+        let counted : counted (status_of cause.Vault) reply + 0 ≡ 1 =
+        counted-same reply (status_of cause.Vault) (ap (λ (r : Reply). r.status) answers.2) in
         absurd (vault (subst (λ (n : ℕ). RoseBy n w0.vault.faults w1.vault.faults) counted counts.vault))
     by_way (keeper_failed verdict) answers =
-        let counted : count_status (status_of cause.Keeper) (reply ∷ []) ≡ 1 =
-        count_status-same reply (status_of cause.Keeper) (ap (λ (r : Reply). r.status) answers.2) in
+        let counted : counted (status_of cause.Keeper) reply + 0 ≡ 1 =
+        counted-same reply (status_of cause.Keeper) (ap (λ (r : Reply). r.status) answers.2) in
         absurd (keeper (subst (λ (n : ℕ). RoseBy n w0.keeper.faults w1.keeper.faults) counted counts.keeper))
 
 -- an answer acts that leads the library so, with its faults counted, and the vault changed under the next take alone
 Acts-of : (s : State) (request : Asked) (reply : Reply) (next : State) (w0 w1 : World) → Answer s request reply next
-    → Leads s next w0 w1 → Counts (reply ∷ []) w0 w1 → (IsQuestion request → w1.vault.calls ≡ w0.vault.calls)
+    → Leads s next w0 w1 → Counts (exchange request reply ∷ []) w0 w1 → (IsQuestion request → w1.vault.calls ≡ w0.vault.calls)
     → Goes (OthersKept s.next_take) w0.vault.blobs w1.vault.blobs → Acts s request reply w0 w1
 Acts-of s request reply next w0 w1 answer leads counts calls keys = record {
   next = next;
@@ -148,7 +149,7 @@ Acts-memory s request r lib0 lib1 keeper vault0 vault1 keeps stages =
     Acts-of s (change request) (refusal cause.Memory) s _ _
     (record { way = without_memory; answers = (refl, refl) })
     (Leads-staged s request.command r lib0 lib1 keeper vault0 vault1 keeps stages)
-    (Counts-neither (refusal cause.Memory) _ _ (differs_from (status_of cause.Memory) (status_of cause.Memory) (status_of cause.Vault) refl (omega arith)) (differs_from (status_of cause.Memory) (status_of cause.Memory) (status_of cause.Keeper) refl (omega arith)) stages.later (omega arith))
+    (Counts-neither (change request) (refusal cause.Memory) _ _ (differs_from (status_of cause.Memory) (status_of cause.Memory) (status_of cause.Vault) refl (omega arith)) (differs_from (status_of cause.Memory) (status_of cause.Memory) (status_of cause.Keeper) refl (omega arith)) stages.later (omega arith))
     (λ is. absurd is)
     (keys-of s lib0 vault0.blobs vault1.blobs keeps stages.others)
 
@@ -162,7 +163,7 @@ Acts-refused s request reply r lib0 lib1 keeper vault0 vault1 keeps stages refus
     (Leads-staged s request.command r lib0 lib1 keeper vault0 vault1 keeps stages)
     (record {
       vault = rose_as (reply.status == (status_of cause.Vault)) vault0.faults vault1.faults (λ h. refuses.vault (tested _ _ h)) stages.later;
-      keeper = RoseBy-none _ _ _ (count_status-other reply (status_of cause.Keeper) refuses.keeper) (omega arith);
+      keeper = RoseBy-none _ _ _ (counted-other reply (status_of cause.Keeper) refuses.keeper) (omega arith);
     })
     (λ is. absurd is)
     (keys-of s lib0 vault0.blobs vault1.blobs keeps stages.others)
@@ -173,7 +174,7 @@ Acts-unread s request w keeps =
     Acts-of s request (refusal cause.Memory) s w w
     (record { way = without_memory; answers = (refl, refl) })
     (Leads-same s w keeps)
-    (Counts-neither (refusal cause.Memory) w w (omega arith) (omega arith) (omega arith) (omega arith))
+    (Counts-neither request (refusal cause.Memory) w w (omega arith) (omega arith) (omega arith) (omega arith))
     (λ is. refl)
     (keys-stay s.next_take w.vault.blobs)
 
@@ -194,7 +195,7 @@ Acts-asked s asked reply w keeps is =
     Acts-of s (question asked) reply s w w
     (record { way = as_decided (stays (question_reply s asked)); answers = (refl, is, refl) })
     (Leads-same s w keeps)
-    (Counts-neither reply w w (λ e. omega (arith, status)) (λ e. omega (arith, status)) (omega arith) (omega arith))
+    (Counts-neither (question asked) reply w w (λ e. omega (arith, status)) (λ e. omega (arith, status)) (omega arith) (omega arith))
     (λ is. refl)
     (keys-stay s.next_take w.vault.blobs)
 
@@ -220,7 +221,7 @@ Acts-made s request p reply r lib0 lib1 lib2 keeper0 keeper2 vault0 vault2 keeps
           (λ old new both held. prepares.files old new held (rw take at both.0) (rw take at both.1))
           vault0.blobs vault2.blobs (Goes-both _ _ vault0.blobs vault2.blobs stages.others put);
     })
-    (Counts-neither reply _ _ (differs_from _ 201 (status_of cause.Vault) status (omega arith)) (differs_from _ 201 (status_of cause.Keeper) status (omega arith)) stages.later commits.later)
+    (Counts-neither (change request) reply _ _ (differs_from _ 201 (status_of cause.Vault) status (omega arith)) (differs_from _ 201 (status_of cause.Keeper) status (omega arith)) stages.later commits.later)
     (λ is. absurd is)
     (keys-of s lib0 vault0.blobs vault2.blobs keeps stages.others)
 
@@ -246,8 +247,8 @@ Acts-committed s request p reply r lib0 lib1 lib2 keeper0 keeper2 vault0 vault2 
             })
             (Leads-kept s w0 w2 keeps (again h.0) stages.others h.0.tables)
             (record {
-              vault = RoseBy-none _ _ _ (count_status-other reply (status_of cause.Vault) (differs_from _ (status_of cause.Keeper) (status_of cause.Vault) status (omega arith))) stages.later;
-              keeper = RoseBy-one _ _ _ (count_status-same reply (status_of cause.Keeper) status) h.2;
+              vault = RoseBy-none _ _ _ (counted-other reply (status_of cause.Vault) (differs_from _ (status_of cause.Keeper) (status_of cause.Vault) status (omega arith))) stages.later;
+              keeper = RoseBy-one _ _ _ (counted-same reply (status_of cause.Keeper) status) h.2;
             })
             (λ is. absurd is)
             (keys-of s lib0 vault0.blobs vault2.blobs keeps stages.others)
@@ -256,7 +257,7 @@ Acts-committed s request p reply r lib0 lib1 lib2 keeper0 keeper2 vault0 vault2 
             Acts-of s (change request) reply s _ _
             (record { way = without_memory; answers = (h.1, refl) })
             (Leads-kept s w0 w2 keeps (again h.0) stages.others h.0.tables)
-            (Counts-neither reply _ _ (differs_from _ (status_of cause.Memory) (status_of cause.Vault) status (omega arith)) (differs_from _ (status_of cause.Memory) (status_of cause.Keeper) status (omega arith)) stages.later commits.later)
+            (Counts-neither (change request) reply _ _ (differs_from _ (status_of cause.Memory) (status_of cause.Vault) status (omega arith)) (differs_from _ (status_of cause.Memory) (status_of cause.Keeper) status (omega arith)) stages.later commits.later)
             (λ is. absurd is)
             (keys-of s lib0 vault0.blobs vault2.blobs keeps stages.others)
       ]

@@ -1,5 +1,6 @@
 pub mod Asked
 pub mod Bodies
+pub mod Exchanges
 pub mod Findings
 pub mod Machine
 pub mod Named

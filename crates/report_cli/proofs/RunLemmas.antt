@@ -8,6 +8,7 @@ use Rattle.keeper_store.specs.Goes.{Goes}
 use Rattle.keeper_store.specs.declared.contents.Tables.{Tables}
 use Rattle.library_model.specs.declared.messages.Reply.{Reply}
 use Rattle.library_model.specs.Asked.{Asked}
+use Rattle.library_model.specs.Exchanges.{requests_of}
 use Rattle.http_model.specs.Framing.{End, ended, unframeable, RequestsOf, input_limit}
 use Rattle.http_model.specs.declared.refusals.FramingRefusal.TheVariants.{Size}
 use Rattle.http_model.specs.Refusals.{framing_refusal}
@@ -122,15 +123,15 @@ session_end : (how : How) (answered : ℕ) (input : List ℕ) (source0 source1 :
 session_end ending.Ended answered input source0 source1 sink0 sink1 w0 w1 told session source sink =
     let took = subst (λ (l : Option (List ℕ)). Consumes l source1.left session.0) told session.1 in
     inr (
-      session.5.requests,
+      (requests_of session.3),
       ended,
-      subst (λ (b : List ℕ). RequestsOf b session.5.requests ended)
+      subst (λ (b : List ℕ). RequestsOf b (requests_of session.3) ended)
           (taken_whole input source1.left session.0 took session.2) session.5.reads,
       refl,
     )
 session_end ending.Unframeable answered input source0 source1 sink0 sink1 w0 w1 told session source sink =
     let took = subst (λ (l : Option (List ℕ)). Consumes l source1.left session.0) told session.1 in
-    let end = unframeable_end input source1.left session.0 session.7.requests session.4 took session.3 session.7.reads in
+    let end = unframeable_end input source1.left session.0 (requests_of session.5) session.4 took session.3 session.7.reads in
     inr (end.0, unframeable end.1, end.2, refl)
 session_end ending.SourceFault answered input source0 source1 sink0 sink1 w0 w1 told session source sink = absurd (source refl)
 session_end ending.SinkFault answered input source0 source1 sink0 sink1 w0 w1 told session source sink = absurd (sink refl)
