@@ -17,5 +17,5 @@ mod rounds;
 mod tests;
 
 pub use gates::{Gate, OpenGate};
-pub use measuring::{measure, measure_alone};
+pub use measuring::measure;
 pub use plans::MOST_WORKERS;

@@ -9,7 +9,7 @@ ghost use Rattle.measure_pool.specs.declared.plans.TheConstants.{MOST_WORKERS};
 use crate::found::zeros;
 use crate::gates::Gate;
 use crate::plans::Plan;
-use crate::rounds::{do_all, do_all_alone};
+use crate::rounds::do_all;
 use lib_base::{Energies, Measured, Memory, Sound};
 use std::alloc::Global;
 use std::thread::Threads;
@@ -47,18 +47,6 @@ pub fn measure<R: Threads + Sync, S: Sound, G: Gate>(
         gate,
         totals.as_mut_slice(),
     )?;
-    Ok(measured_of(sound, plan, Energies::of(totals), peak))
-}
-
-/// What is measured of a sound, by the thread that calls.
-pub fn measure_alone<S: Sound>(alloc: Global, sound: &S) -> Result<Measured, Memory>
-    ensures measured { IfOk result (λ m.
-        m ≡ measured (S.depth sound.now) (S.frames sound.now) (S.lists sound.now)) }
-    ensures within { IfOk result (λ m. S.frames sound.now ≤ most_frames → IsWithinBounds m) }
-{
-    let plan = Plan::of(sound, 1);
-    let mut totals = zeros(alloc, (sound.frames() / SEGMENT) as usize)?;
-    let peak = do_all_alone(alloc, sound, plan, totals.as_mut_slice())?;
     Ok(measured_of(sound, plan, Energies::of(totals), peak))
 }
 

@@ -62,9 +62,10 @@ impl Plan {
 
     /// The plan for a sound that so many workers measure.
     ///
-    /// With no more workers than channels each channel is gone over once, which fills a piece of it
-    /// once. With more of them the peaks are taken by stretches: so many that one call of all workers
-    /// does all jobs, or two calls where there are too few workers for a stretch a channel.
+    /// As many channels as give each worker the same number are gone over once, which fills a piece of
+    /// them once. Of the channels that are left, fewer than there are workers, the peaks are taken by
+    /// stretches: so many that one call of all workers does all of these jobs, or two calls where there
+    /// are too few workers for a stretch a channel.
     pub fn of<S: Sound>(sound: &S, workers: usize) -> Plan
         requires sound { IsSound (S.lists sound.now) (S.depth sound.now) (S.frames sound.now) }
         requires some { 1 ≤ workers }
@@ -73,10 +74,16 @@ impl Plan {
     {
         let channels = sound.channels();
         let end = sound.frames() + RUN_OUT;
-        if workers <= channels || end < SHORT {
+        let left = channels % workers;
+        if left == 0 || end < SHORT {
             Plan::with(channels, channels, end, 1)
         } else {
-            Plan::with(channels, 0, end, stretches_for(channels, workers, end))
+            Plan::with(
+                channels,
+                channels - left,
+                end,
+                stretches_for(left, workers, end),
+            )
         }
     }
 
@@ -143,7 +150,7 @@ impl Plan {
     }
 }
 
-/// How many stretches each channel of so many places has, for more workers than channels.
+/// How many stretches each of so many channels has, of so many places, for more workers than channels.
 fn stretches_for(channels: usize, workers: usize, end: u64) -> usize
     requires some { 1 ≤ channels }
     requires most { workers ≤ 64 }

@@ -4,7 +4,7 @@ ghost use Rattle.lib_base.specs.Sounds.{IsSound};
 ghost use Rattle.measure_pool.specs.Jobs.{found_by, AreFound, AreGathered};
 ghost use Rattle.measure_pool.specs.Plans.{IsPlanOf, job_at, jobs_of};
 
-use crate::found::{Found, add_found, add_round};
+use crate::found::{Found, add_round};
 use crate::gates::Gate;
 use crate::jobs::do_job;
 use crate::plans::Plan;
@@ -85,25 +85,4 @@ fn start_job<S: Sound, G: Gate>(
     let number = first + place;
     gate.started(number as u32);
     do_job(alloc, sound, plan.job(number))
-}
-
-/// Does all jobs of a plan one after another, with no gate, and in no other thread.
-pub fn do_all_alone<S: Sound>(
-    alloc: Global,
-    sound: &S,
-    plan: Plan,
-    totals: &mut [u128],
-) -> Result<u64, Memory>
-    requires sound { IsSound (S.lists sound.now) (S.depth sound.now) (S.frames sound.now) }
-    requires plan { IsPlanOf plan (length (S.lists sound.now)) (S.frames sound.now) }
-    requires zeros { totals.old ≡ replicate (S.frames sound.now / 4800) 0 }
-    ensures { IfOk result (λ most.
-        AreGathered (S.depth sound.now) (S.frames sound.now) (S.lists sound.now) plan (jobs_of plan) totals.new most) }
-{
-    let mut most = 0;
-    for number in 0..plan.jobs() {
-        let found = do_job(alloc, sound, plan.job(number))?;
-        most = add_found(sound, plan, number, &found, totals, most);
-    }
-    Ok(most)
 }

@@ -4,7 +4,7 @@ ghost use Rattle.std.specs.Prelude.{◌≡◌, ◌<◌, ◌^◌, IfOk, All, leng
 ghost use Rattle.lib_base.specs.Sounds.{IsSample};
 
 use crate::plans::{Job, Plan};
-use crate::{Gate, OpenGate, measure, measure_alone};
+use crate::{Gate, OpenGate, measure};
 use lib_base::{Memory, PcmSound};
 use std::alloc::Global;
 use std::sync::atomic::{AtomicU64, Ordering};
@@ -119,8 +119,8 @@ fn any_workers_measure_alike(rt: HostRuntime) -> Result<(), Fail> {
             six(alloc, frames)?,
         ];
         for sound in &sounds {
-            let alone = measure_alone(alloc, sound)?;
-            for workers in [1, 2, 3, 4, 8, 64] {
+            let alone = measure(&rt, alloc, sound, 1, &OpenGate)?;
+            for workers in [2, 3, 4, 5, 8, 64] {
                 let shared = measure(&rt, alloc, sound, workers, &OpenGate)?;
                 let channels = shared.channels;
                 assert_eq!(rt;
@@ -166,6 +166,46 @@ fn sounds_are_measured(rt: HostRuntime) -> Result<(), Fail> {
     let none = measure(&rt, alloc, &steady(alloc, 4799)?, 2, &OpenGate)?;
     assert_eq!(rt; (none.frames, none.energies.len()), (4799, 0));
     assert_eq!(rt; none.peak, 38_340_132_864);
+    Ok(())
+}
+
+/// How many channels are gone over once, of how many others the energies are taken, and how many
+/// stretches there are, where so many workers measure a sound.
+fn shares(sound: &PcmSound, workers: usize) -> (u32, u32, u32)
+    requires some { 1 ≤ workers }
+    requires most { workers ≤ 64 }
+{
+    let plan = Plan::of(sound, workers);
+    let mut shares = (0u32, 0u32, 0u32);
+    for number in 0..plan.jobs() {
+        match plan.job(number) {
+            Job::Whole(_) => shares.0 = shares.0.saturating_add(1),
+            Job::Segments(_) => shares.1 = shares.1.saturating_add(1),
+            Job::Peak(_) => shares.2 = shares.2.saturating_add(1),
+        }
+    }
+    shares
+}
+
+// 60,001 frames are long enough for three stretches.
+#[test]
+fn workers_share_channels_out(rt: HostRuntime) -> Result<(), Fail> {
+    let alloc = rt.alloc();
+    for (sound, workers, want) in [
+        (mono(alloc, Samples::Noise(1), 60_001)?, 1, (1, 0, 0)),
+        (mono(alloc, Samples::Noise(1), 60_001)?, 3, (0, 1, 2)),
+        (two(alloc, 60_001)?, 2, (2, 0, 0)),
+        (two(alloc, 60_001)?, 3, (0, 2, 4)),
+        (two(alloc, 60_001)?, 4, (0, 2, 2)),
+        (three(alloc, 60_001)?, 2, (2, 1, 1)),
+        (six(alloc, 60_001)?, 3, (6, 0, 0)),
+        (six(alloc, 60_001)?, 4, (4, 2, 2)),
+        (six(alloc, 60_001)?, 5, (5, 1, 3)),
+        (six(alloc, 60_001)?, 8, (0, 6, 6)),
+        (six(alloc, 47_988)?, 4, (6, 0, 0)),
+    ] {
+        assert_eq!(rt; shares(&sound, workers), want, "{workers} workers");
+    }
     Ok(())
 }
 
