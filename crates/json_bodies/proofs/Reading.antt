@@ -1,5 +1,5 @@
 -- What serde_json's reader and std's test of UTF-8 answer is what the definitions say.
-use Rattle.std.proofs.Common.{◌≡◌, ◌==◌, ◌∙◌, ℕ, suc, Bool, true, false, Option, None, Some, Result, Ok, Err, List, [], ◌∷◌, length, if◌then◌else◌, option_and_then, refl, ap, sym, arith}
+use Rattle.std.proofs.Common.{◌≡◌, ◌==◌, ◌∙◌, ℕ, suc, Bool, true, false, None, Some, Result, Ok, Err, List, [], ◌∷◌, length, if◌then◌else◌, option_and_then, refl, ap, sym, arith}
 use Rattle.std.specs.Prelude.{IsUtf8, MatchResult, String, is_ok}
 use Rattle.std.specs.Str.{is_utf8}
 use Rattle.std.specs.declared.alloc.Global.{Global}

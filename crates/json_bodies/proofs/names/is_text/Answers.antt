@@ -1,4 +1,4 @@
-use Rattle.std.proofs.Common.{◌≡◌, ◌∙◌}
+use Rattle.std.proofs.Common.{◌∙◌}
 use Rattle.json_bodies.proofs.Reading.{taken_as_text}
 use Rattle.json_bodies.proofs.names.is_text.Goals as goal
 
