@@ -2,7 +2,9 @@ pub mod Asked
 pub mod Findings
 pub mod Framing
 pub mod Machine
+pub mod Names
 pub mod Refusals
 pub mod Replies
 pub mod Stands
+pub mod RowRules
 pub mod State
