@@ -1,1 +1,3 @@
+pub mod EnergyTests
+pub mod Trying
 pub mod Walking

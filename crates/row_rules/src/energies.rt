@@ -17,7 +17,13 @@ pub(crate) fn are_energies_of(frames: u64, bytes: &[u8]) -> bool
     ensures { result ≡ are_energies_of frames bytes.now }
 {
     let (pieces, rest) = bytes.as_chunks::<11>();
-    rest.is_empty() && are_energies(pieces) && pieces.len() as u64 == frames / SEGMENT_FRAMES
+    if !rest.is_empty() {
+        return false;
+    }
+    if !are_energies(pieces) {
+        return false;
+    }
+    pieces.len() as u64 == frames / SEGMENT_FRAMES
 }
 
 fn are_energies(pieces: &[[u8; 11]]) -> bool

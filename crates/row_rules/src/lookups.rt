@@ -1,5 +1,5 @@
 //! What rows are looked up by: ids and takes, each found by halving.
-ghost use Rattle.std.specs.Prelude.{◌≡◌, ◌≤◌, ℕ, IfOk, unwrap_or, length};
+ghost use Rattle.std.specs.Prelude.{◌≡◌, ℕ, List, IfOk, unwrap_or};
 ghost use Rattle.std.specs.Ordering.{nat_cmp};
 ghost use Rattle.std.specs.BTreeMap.{get};
 ghost use Rattle.std.specs.BTreeSet.{contains};
@@ -75,6 +75,13 @@ pub(crate) fn frames_by_take(
         frames.insert(row.take, row.summary.frames)?;
     }
     Ok(frames)
+}
+
+/// The frames of a take, None where no recording names it.
+pub(crate) fn frames_at(frames: &BTreeMap<u32, u64>, take: u32) -> Option<u64>
+    ensures { result ≡ get nat_cmp frames.now take }
+{
+    frames.get(&take).copied()
 }
 
 /// Whether the album that a recording names is among these, or it names none.

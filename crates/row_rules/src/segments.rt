@@ -6,7 +6,7 @@ ghost use Rattle.library_model.specs.RowRules.{segments_rule, energies_rule, bad
 
 use crate::counters::is_placed;
 use crate::energies::are_energies_of;
-use crate::lookups::frames_by_take;
+use crate::lookups::{frames_at, frames_by_take};
 use keeper_store::{SegmentRow, Tables};
 use lib_base::Memory;
 use library_model::{BadRow, RowRule, RowTable};
@@ -27,7 +27,7 @@ fn try_rows(tables: &Tables, frames: &BTreeMap<u32, u64>) -> Option<BadRow>
 {
     let mut before = 0;
     for row in tables.segments.as_slice() {
-        let named = frames.get(&row.take).copied();
+        let named = frames_at(frames, row.take);
         if let Some(rule) = broken_rule(tables.next_take, before, named, row) {
             return Some(BadRow {
                 table: RowTable::Segments,

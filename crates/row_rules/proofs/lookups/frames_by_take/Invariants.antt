@@ -9,3 +9,6 @@ invariant-loop-left l = record {
   inside : l.left ≤ length l.recordings;
   frames : (number : ℕ) → get nat_cmp l.frames number ≡ frames_of_take number (drop l.left l.recordings);
 }
+
+abbrev pub decreases-loop-left : goal.decreases-loop-left
+decreases-loop-left l = l.left
