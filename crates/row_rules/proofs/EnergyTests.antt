@@ -21,5 +21,5 @@ counted frames bytes pieces are whole small =
     let within : list_all (λ e. nat_le e greatest_energy) (energies_in bytes) ≡ true =
     ap (λ (ps : List (List ℕ)). list_all (λ e. nat_le e greatest_energy) (map spelled ps)) (sym are) ∙ all_spelled pieces ∙ small in
     let count : length (energies_in bytes) ≡ length pieces =
-    ap (λ (ps : List (List ℕ)). length (map spelled ps)) (sym are) ∙ length-map spelled pieces in
+    ap (λ (ps : List (List ℕ)). length (map spelled ps)) (sym are) ∙ length-map pieces spelled in
     rw (whole, within, count) refl

@@ -13,6 +13,7 @@ const SEGMENT_FRAMES: u64 = 4_800;
 
 /// Whether the bytes are energies, 11 bytes each and none too great, of as many segments as the
 /// frames make.
+#[tactic(auto, using(crate::proofs::EnergyTests::all_spelled))]
 pub(crate) fn are_energies_of(frames: u64, bytes: &[u8]) -> bool
     ensures { result ≡ are_energies_of frames bytes.now }
 {

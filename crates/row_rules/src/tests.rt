@@ -141,19 +141,20 @@ fn recordings(alloc: Global, fault: Fault) -> Result<Rows<RecordingRow>, Memory>
     Ok(Rows::of(rows))
 }
 
-fn segment_rows(alloc: Global, fault: Fault) -> Result<Rows<SegmentRow>, Memory> {
-    let mut first = segments(alloc, 1)?;
+fn first_energies(alloc: Global, fault: Fault) -> Result<Bytes, Memory> {
     match fault {
-        Fault::TwelveBytes => first.energies = Bytes::copy(alloc, &[0; 12])?,
-        Fault::EnergyTooGreat => {
-            first.energies = Bytes::copy(alloc, b"\x02\xaa\x08\0\0\0\0\0\0\0\x01")?;
-        }
-        Fault::OneEnergyMore => first.energies = bytes_of(alloc, &[1, 2])?,
-        _ => {}
+        Fault::TwelveBytes => Bytes::copy(alloc, &[0; 12]),
+        Fault::EnergyTooGreat => Bytes::copy(alloc, b"\x02\xaa\x08\0\0\0\0\0\0\0\x01"),
+        Fault::OneEnergyMore => bytes_of(alloc, &[1, 2]),
+        _ => bytes_of(alloc, &[258]),
     }
+}
+
+fn segment_rows(alloc: Global, fault: Fault) -> Result<Rows<SegmentRow>, Memory> {
     let mut rows = Vec::new(alloc);
     if fault != Fault::NoSegments {
-        rows.push(first)?;
+        let energies = first_energies(alloc, fault)?;
+        rows.push(SegmentRow { take: 1, energies })?;
     }
     if fault == Fault::SegmentsAlone {
         rows.push(segments(alloc, 2)?)?;
