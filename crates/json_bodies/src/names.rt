@@ -2,20 +2,19 @@
 ghost use Rattle.std.specs.Prelude.{◌≡◌};
 ghost use Rattle.std.specs.List.{list_all};
 ghost use Rattle.std.specs.Str.{is_utf8};
-ghost use Rattle.library_model.specs.Named as model;
+ghost use Rattle.library_model.specs.Names as model;
 
-/// The greatest length of a name, in bytes.
-const NAME_LIMIT: usize = 200;
+use library_model::limits::MOST_NAME_BYTES;
 
 /// Whether a text is a name: up to 200 bytes of UTF-8 (RFC 3629), none of them a control of ASCII.
 pub fn is_name(text: &[u8]) -> bool
     ensures { result ≡ model.is_name text.now }
 {
-    text.len() <= NAME_LIMIT && has_no_control(text) && is_text(text)
+    is_text(text) && (text.len() <= MOST_NAME_BYTES && has_no_control(text))
 }
 
 fn has_no_control(text: &[u8]) -> bool
-    ensures { result ≡ list_all model.is_name_byte text.now }
+    ensures { result ≡ list_all model.is_shown text.now }
 {
     text.iter().all(|byte| 0x20 <= *byte && *byte != 0x7F)
 }

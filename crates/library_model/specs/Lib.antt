@@ -4,7 +4,9 @@ pub mod Exchanges
 pub mod Findings
 pub mod Machine
 pub mod Named
+pub mod Names
 pub mod Refusals
 pub mod Replies
 pub mod Stands
+pub mod RowRules
 pub mod State
