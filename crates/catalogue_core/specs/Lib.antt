@@ -1,4 +1,5 @@
 pub mod Asking
+pub mod Causes
 pub mod Committing
 pub mod Examining
 pub mod Imports

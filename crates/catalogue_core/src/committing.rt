@@ -1,4 +1,5 @@
 //! Making a prepared change.
+ghost use Rattle.catalogue_core.specs.Causes.{CommitsBy};
 ghost use Rattle.catalogue_core.specs.Committing.{Commits, Fits};
 
 use crate::{Library, Prepared};
@@ -11,7 +12,8 @@ use library_model::Reply;
 /// memory of its own.
 pub fn commit<D: Keeper>(library: &mut Library, ready: Prepared, keeper: &mut D) -> Reply
     requires { Fits library.old ready }
-    ensures { Commits ready library.old library.new (D.shown keeper.old) (D.shown keeper.new) result }
+    ensures commits { Commits ready library.old library.new (D.shown keeper.old) (D.shown keeper.new) result }
+    ensures causes { CommitsBy result (D.shown keeper.old).faults (D.shown keeper.new).faults }
 {
     let Prepared {
         batch,

@@ -1,5 +1,5 @@
 //! A change that was decided, and for which all memory was taken.
-ghost use Rattle.std.specs.Prelude.{◌≡◌};
+ghost use Rattle.std.specs.Prelude.{◌≡◌, ◌≤◌};
 ghost use Rattle.library_model.specs.Replies.{refusal};
 ghost use Rattle.library_model.specs.declared.refusals.Refusal.TheVariants.{Keeper, Memory};
 
@@ -7,7 +7,7 @@ use keeper_store::Batch;
 use library_model::Reply;
 
 /// A change that waits for its commit: its batch, its reply, and the replies to a keeper that
-/// refuses it.
+/// refuses it. Its status is 200 or 201.
 #[derive(Debug, Drop)]
 pub struct Prepared {
     pub(crate) batch: Batch,
@@ -16,6 +16,8 @@ pub struct Prepared {
     pub(crate) memory_refusal: Reply,
     ghost of_keeper: { keeper_refusal ≡ refusal Keeper },
     ghost of_memory: { memory_refusal ≡ refusal Memory },
+    ghost granted_least: { 200 ≤ reply.status },
+    ghost granted_most: { reply.status ≤ 201 },
 }
 
 /// What staging a request gives.

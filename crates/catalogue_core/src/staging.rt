@@ -3,6 +3,7 @@ ghost use Rattle.std.specs.Prelude.{◌≡◌, ◌≤◌, IfOk};
 ghost use Rattle.keeper_store.specs.EnergyBytes.{AreEnergies};
 ghost use Rattle.library_model.specs.State.{State};
 ghost use Rattle.measure_pool.specs.declared.plans.TheConstants.{MOST_WORKERS};
+ghost use Rattle.catalogue_core.specs.Causes.{StagesBy};
 ghost use Rattle.catalogue_core.specs.Imports.{StagesAccepted, lacks_numbers};
 ghost use Rattle.catalogue_core.specs.Kept.{Keeps, numbers_of};
 ghost use Rattle.catalogue_core.specs.Staging.{StagedFrom, Stages, LeavesUnlessFailed};
@@ -40,6 +41,7 @@ pub fn stage<R: Threads + Sync, V: Vault, G: Gate, L: Ledger>(
     ensures staged { (s : State) → Keeps library.old s
         → IfOk result (StagedFrom s request (V.shown vault.old).faults (V.shown vault.new).faults) }
     ensures stages { Stages request.command library.old library.new (V.shown vault.old) (V.shown vault.new) result }
+    ensures causes { StagesBy (V.shown vault.old).faults (V.shown vault.new).faults result }
 
     // The vault does not change at a refusal other than `Vault`.
     ensures untouched { LeavesUnlessFailed result vault.old vault.new }
@@ -63,6 +65,7 @@ fn stage_import<R: Threads + Sync, V: Vault, G: Gate>(
     ensures staged { (s : State) → Keeps library.old s
         → IfOk result (StagedFrom s (record { command = Command.Import file }) (V.shown vault.old).faults (V.shown vault.new).faults) }
     ensures stages { Stages (Command.Import file) library.old library.new (V.shown vault.old) (V.shown vault.new) result }
+    ensures causes { StagesBy (V.shown vault.old).faults (V.shown vault.new).faults result }
     ensures untouched { LeavesUnlessFailed result vault.old vault.new }
 {
     match examine(rt, library.alloc, file.as_slice(), workers, gate)? {
@@ -85,6 +88,7 @@ fn stage_accepted<V: Vault>(
     ensures accepted { IfOk result (StagesAccepted (numbers_of library.old) file.now measured.now summary
         (V.shown vault.old).faults (V.shown vault.new).faults) }
     ensures stages { Stages (Command.Import file.now) library.old library.new (V.shown vault.old) (V.shown vault.new) result }
+    ensures causes { StagesBy (V.shown vault.old).faults (V.shown vault.new).faults result }
     ensures untouched { LeavesUnlessFailed result vault.old vault.new }
 {
     let alloc = library.alloc;
@@ -93,9 +97,11 @@ fn stage_accepted<V: Vault>(
         return Ok(Staged::Refused(refuse(alloc, Refusal::Ids)?));
     }
     let ready = prepare_import(library, file, measured, summary)?;
+    // made before the vault is called: so no fault stands behind want of memory
+    let vault_refusal = refuse(alloc, Refusal::Vault)?;
     match vault.put(next.take, file) {
         Ok(()) => Ok(Staged::Ready(ready)),
-        Err(Outside::Failed) => Ok(Staged::Refused(refuse(alloc, Refusal::Vault)?)),
+        Err(Outside::Failed) => Ok(Staged::Refused(vault_refusal)),
         Err(Outside::Memory) => Err(Memory),
     }
 }
