@@ -1,8 +1,8 @@
 -- What a library keeps.
 use Rattle.std.specs.Prelude.{◌≡◌, ◌+◌, ◌≤◌, ℕ, [], vec_len, vec_capacity}
 use Rattle.keeper_store.specs.declared.contents.Tables.{Tables}
-use Rattle.library_model.specs.State.{State, IsValid}
-use Rattle.library_model.specs.Stands.{tables_of}
+use Rattle.library_model.specs.State.{State}
+use Rattle.library_model.specs.Stands.{IsValid, tables_of}
 use Rattle.catalogue_core.specs.declared.libraries.Library.{Library}
 
 -- the tables that the library keeps

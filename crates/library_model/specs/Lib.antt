@@ -1,6 +1,7 @@
 pub mod Asked
 pub mod Bodies
 pub mod Findings
+pub mod InOrder
 pub mod Machine
 pub mod Named
 pub mod Refusals
