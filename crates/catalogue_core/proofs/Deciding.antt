@@ -6,6 +6,7 @@ use Rattle.lib_base.specs.declared.files.Measured.{Measured}
 use Rattle.lib_base.specs.declared.files.Summary.{Summary}
 use Rattle.file_model.specs.Pcm.{Pcm}
 use Rattle.file_model.specs.Reading.{Reads, accepted}
+use Rattle.keeper_store.specs.Changes.{next_numbers}
 use Rattle.library_model.specs.Findings.{Finds, measured, measured_of, broken_by}
 use Rattle.library_model.specs.declared.messages.Command.TheVariants.{Import}
 use Rattle.library_model.specs.declared.messages.Reply.{Reply}
@@ -48,7 +49,7 @@ RefusesBy-broken s file rule place reply before now reads is =
     }
 
 -- with no number left the import is refused, and else it is accepted
-import_verdict-lacks : (s : State) (file : List ℕ) (sound : Pcm) (summary : Summary) (lacks : Bool) → lacks_numbers (tables_of s) ≡ lacks
+import_verdict-lacks : (s : State) (file : List ℕ) (sound : Pcm) (summary : Summary) (lacks : Bool) → lacks_numbers (next_numbers (tables_of s)) ≡ lacks
     → import_verdict s file (measured sound summary)
     ≡ (if lacks then stays (refusal Ids) else accepts (recording_reply 201 (new_recording s file sound summary)) (imported s file sound summary))
 import_verdict-lacks s file sound summary lacks h =
@@ -56,7 +57,7 @@ import_verdict-lacks s file sound summary lacks h =
 
 -- the import is refused for want of a number
 RefusesBy-ids : (s : State) (file : List ℕ) (sound : Pcm) (summary : Summary) (reply : Reply) (before now : ℕ) → Finds file (measured sound summary)
-    → lacks_numbers (tables_of s) ≡ true → reply ≡ refusal Ids → RefusesBy s (import_of file) reply before now
+    → lacks_numbers (next_numbers (tables_of s)) ≡ true → reply ≡ refusal Ids → RefusesBy s (import_of file) reply before now
 RefusesBy-ids s file sound summary reply before now reads lacks is =
     let status : reply.status ≡ status_of Ids = ap (λ (r : Reply). r.status) is in
     record {
@@ -71,7 +72,7 @@ RefusesBy-ids s file sound summary reply before now reads lacks is =
 
 -- the import is refused for a fault of the vault
 RefusesBy-vault : (s : State) (file : List ℕ) (sound : Pcm) (summary : Summary) (reply : Reply) (before now : ℕ) → Finds file (measured sound summary)
-    → lacks_numbers (tables_of s) ≡ false → reply ≡ refusal Vault → Rose before now → RefusesBy s (import_of file) reply before now
+    → lacks_numbers (next_numbers (tables_of s)) ≡ false → reply ≡ refusal Vault → Rose before now → RefusesBy s (import_of file) reply before now
 RefusesBy-vault s file sound summary reply before now reads lacks is rose =
     let status : reply.status ≡ status_of Vault = ap (λ (r : Reply). r.status) is in
     record {
@@ -86,8 +87,8 @@ RefusesBy-vault s file sound summary reply before now reads lacks is rose =
 
 -- a prepared import is that of the request
 Prepares-import : (s : State) (file : List ℕ) (sound : Pcm) (summary : Summary) (p : Prepared) → IsValid s
-    → Finds file (measured sound summary) → lacks_numbers (tables_of s) ≡ false
-    → PreparesImport (tables_of s) file (measured_of sound) summary p → Prepares s (import_of file) p
+    → Finds file (measured sound summary) → lacks_numbers (next_numbers (tables_of s)) ≡ false
+    → PreparesImport (next_numbers (tables_of s)) file (measured_of sound) summary p → Prepares s (import_of file) p
 Prepares-import s file sound summary p valid finds lacks prepares =
     let reply : p.reply ≡ recording_reply 201 (new_recording s file sound summary) = prepares.reply in
     record {
@@ -103,7 +104,7 @@ Prepares-import s file sound summary p valid finds lacks prepares =
 
 -- what staging a file of that sound answers is what staging its import answers
 StagedFrom-sound : (s : State) (file : List ℕ) (sound : Pcm) (summary : Summary) (before now : ℕ) (staged : Staged) → IsValid s
-    → Finds file (measured sound summary) → StagesAccepted (tables_of s) file (measured_of sound) summary before now staged
+    → Finds file (measured sound summary) → StagesAccepted (next_numbers (tables_of s)) file (measured_of sound) summary before now staged
     → StagedFrom s (import_of file) before now staged
 StagedFrom-sound s file sound summary before now (Refused reply) valid finds stages =
     elim stages [
@@ -116,7 +117,7 @@ StagedFrom-sound s file sound summary before now (Ready p) valid finds stages =
 -- so of an accepted file
 pub StagedFrom-accepted : (s : State) (file : List ℕ) (sound : Pcm) (m : Measured) (summary : Summary) (before now : ℕ) (staged : Staged)
     → IsValid s → Reads file (accepted sound) → IsMeasuredOf sound m summary
-    → StagesAccepted (tables_of s) file m summary before now staged → StagedFrom s (import_of file) before now staged
+    → StagesAccepted (next_numbers (tables_of s)) file m summary before now staged → StagedFrom s (import_of file) before now staged
 StagedFrom-accepted s file sound m summary before now staged valid reads are stages =
-    let Stages : Measured → Type 0 = λ m. StagesAccepted (tables_of s) file m summary before now staged in
+    let Stages : Measured → Type 0 = λ m. StagesAccepted (next_numbers (tables_of s)) file m summary before now staged in
     StagedFrom-sound s file sound summary before now staged valid (reads, are.levels) (subst Stages are.measured_is stages)

@@ -1,31 +1,51 @@
 -- What committing a prepared change answers.
-use Rattle.std.specs.Prelude.{◌≡◌, ◌≤◌, ◌⊎◌, ℕ, length}
+use Rattle.std.specs.Prelude.{◌≡◌, ◌≤◌, ◌⊎◌, ℕ, List, length}
 use Rattle.lib_base.specs.Faults.{Rose}
 use Rattle.keeper_store.specs.declared.contents.Tables.{Tables}
+use Rattle.keeper_store.specs.declared.contents.Change.{Change}
 use Rattle.keeper_store.specs.Changes.{changed_all}
-use Rattle.keeper_store.specs.Goes.{Goes, RoseByOneAtMost}
+use Rattle.keeper_store.specs.Goes.{Goes, RoseByOne}
 use Rattle.keeper_store.specs.Keepers.{KeeperView}
 use Rattle.library_model.specs.declared.messages.Reply.{Reply}
 use Rattle.library_model.specs.declared.refusals.Refusal.TheVariants.{Keeper, Memory}
 use Rattle.library_model.specs.Replies.{refusal}
 use Rattle.catalogue_core.specs.declared.libraries.Library.{Library}
 use Rattle.catalogue_core.specs.declared.prepared.Prepared.{Prepared}
-use Rattle.catalogue_core.specs.Kept.{kept_tables, HasRoom}
+use Rattle.catalogue_core.specs.Kept.{Holds, HasRoom}
 
--- The change is made, with its reply; or the keeper's count rose, or memory was wanting, and nothing changed.
-abbrev pub Settles : Prepared → Tables → Tables → ℕ → ℕ → Reply → Type 0
-Settles p old new before now reply =
-    ((reply ≡ p.reply) × (new ≡ changed_all p.batch.changes old))
-    ⊎ (((reply ≡ refusal Keeper) × (new ≡ old) × Rose before now)
-    ⊎ ((reply ≡ refusal Memory) × (new ≡ old)))
+-- the library holds what it held
+abbrev pub HoldsAgain : Library → Library → Type 0
+HoldsAgain old new = (t : Tables) → Holds old t → Holds new t
 
--- What a commit does to the library and the keeper: the change is settled, with one `apply` at most. Where the library
--- keeps the keeper's tables, it keeps them again.
+-- the library holds what changes make of what it held
+abbrev pub HoldsChanged : List Change → Library → Library → Type 0
+HoldsChanged changes old new = (t : Tables) → Holds old t → Holds new (changed_all changes t)
+
+-- The change was made, with its reply.
+pub record IsMade (p : Prepared) (library committed : Library) (old new : KeeperView) (reply : Reply) : Type 0 where
+  pub reply_is : reply ≡ p.reply
+  pub holds : HoldsChanged p.batch.changes library committed
+  pub tables : Goes (λ t u. u ≡ changed_all p.batch.changes t) old.tables new.tables
+
+-- Nothing was changed.
+pub record IsLeft (library committed : Library) (old new : KeeperView) : Type 0 where
+  pub holds : HoldsAgain library committed
+  pub tables : Goes (λ t u. u ≡ t) old.tables new.tables
+
+-- The change was made, with its reply; or the keeper's count rose, or memory was wanting with no fault counted, and nothing
+-- was changed.
+abbrev pub Settles : Prepared → Library → Library → KeeperView → KeeperView → Reply → Type 0
+Settles p library committed old new reply =
+    IsMade p library committed old new reply
+    ⊎ ((IsLeft library committed old new × (reply ≡ refusal Keeper) × Rose old.faults new.faults)
+    ⊎ (IsLeft library committed old new × (reply ≡ refusal Memory) × (new.faults ≡ old.faults)))
+
+-- What a commit does to the library and the keeper: the change is settled, with one `apply` whatever it
+-- answers.
 pub record Commits (p : Prepared) (library committed : Library) (old new : KeeperView) (reply : Reply) : Type 0 where
-  pub settles : Settles p (kept_tables library) (kept_tables committed) old.faults new.faults reply
-  pub tables : Goes (λ t u. t ≡ kept_tables library → u ≡ kept_tables committed) old.tables new.tables
+  pub settles : Settles p library committed old new reply
   pub later : old.faults ≤ new.faults
-  pub applies : RoseByOneAtMost old.applies new.applies
+  pub applies : RoseByOne old.applies new.applies
 
 -- the library has the room that the change needs
 abbrev pub Fits : Library → Prepared → Type 0

@@ -1,28 +1,25 @@
 -- What a library keeps.
-use Rattle.std.specs.Prelude.{◌≡◌, ◌+◌, ◌≤◌, ℕ, [], vec_len, vec_capacity}
+use Rattle.std.specs.Prelude.{ℕ}
+use Rattle.catalogue_rows.specs.Holding as rows
+use Rattle.keeper_store.specs.declared.contents.NextNumbers.{NextNumbers}
 use Rattle.keeper_store.specs.declared.contents.Tables.{Tables}
 use Rattle.library_model.specs.State.{State}
 use Rattle.library_model.specs.Stands.{IsValid, tables_of}
 use Rattle.catalogue_core.specs.declared.libraries.Library.{Library}
 
--- the tables that the library keeps
-abbrev pub kept_tables : Library → Tables
-kept_tables library = record {
-  next_album = library.next_album;
-  next_recording = library.next_recording;
-  next_take = library.next_take;
-  albums = [];
-  recordings = library.recordings.items;
-  segments = library.segments.items;
-  replies = [];
-}
+-- the numbers that come next
+abbrev pub numbers_of : Library → NextNumbers
+numbers_of library = rows.numbers_of library.rows
+
+-- the library holds these tables
+abbrev pub Holds : Library → Tables → Type 0
+Holds library t = rows.Holds library.rows t
 
 -- there is room for so many rows more, in each table
-pub record HasRoom (library : Library) (more : ℕ) : Type 0 where
-  pub recordings : vec_len library.recordings + more ≤ vec_capacity library.recordings
-  pub segments : vec_len library.segments + more ≤ vec_capacity library.segments
+abbrev pub HasRoom : Library → ℕ → Type 0
+HasRoom library more = rows.HasRoom library.rows more
 
--- The library keeps a state: a valid one, of which it keeps the tables.
+-- The library keeps a state: a valid one, of which it holds the tables.
 pub record Keeps (library : Library) (s : State) : Type 0 where
   pub valid : IsValid s
-  pub rows : kept_tables library ≡ tables_of s
+  pub rows : Holds library (tables_of s)

@@ -1,5 +1,5 @@
 -- Which tables a library opens over.
-use Rattle.std.specs.Prelude.{◌≡◌, ◌==◌, ◌&&◌, Bool, length, Option, None, Some, Result, Ok, Err, if◌then◌else◌, IfOk, IfSome, IsErrOf, ⊤}
+use Rattle.std.specs.Prelude.{◌≡◌, ◌==◌, ◌&&◌, Bool, length, Option, None, Some, Result, Ok, Err, if◌then◌else◌, IfOk, IfSome, OnOk, IsErrOf, ⊤}
 use Rattle.lib_base.specs.Faults.{CountsFault}
 use Rattle.keeper_store.specs.Changes.{empty_tables}
 use Rattle.keeper_store.specs.Goes.{Goes}
@@ -9,7 +9,7 @@ use Rattle.catalogue_core.specs.declared.libraries.BadRow.{BadRow}
 use Rattle.catalogue_core.specs.declared.libraries.Library.{Library}
 use Rattle.catalogue_core.specs.declared.libraries.OpenRefusal.{OpenRefusal}
 use Rattle.catalogue_core.specs.declared.libraries.OpenRefusal.TheVariants as refusal
-use Rattle.catalogue_core.specs.Kept.{kept_tables}
+use Rattle.catalogue_core.specs.Kept.{Holds}
 
 -- no row in any table
 abbrev pub has_no_row : Tables → Bool
@@ -25,7 +25,7 @@ first_bad t = if has_first_counters t && has_no_row t then None else Some (recor
 
 -- what opening over these tables may answer: the library of them, or their first bad row
 abbrev pub OpensOver : Tables → Result Library OpenRefusal → Type 0
-OpensOver t (Ok library) = (first_bad t ≡ None) × (kept_tables library ≡ t)
+OpensOver t (Ok library) = (first_bad t ≡ None) × Holds library t
 OpensOver t (Err (refusal.BadRow table id rule)) = first_bad t ≡ Some (record { table = table; id = id; rule = rule })
 OpensOver t (Err refusal.KeeperFault) = ⊤
 OpensOver t (Err refusal.Memory) = ⊤
@@ -33,7 +33,8 @@ OpensOver t (Err refusal.Memory) = ⊤
 -- What opening does: the library is that of the tables, which are empty, and the keeper keeps its tables.
 pub record Opens (old new : KeeperView) (r : Result Library OpenRefusal) : Type 0 where
   pub opens : IfSome old.tables (λ t. OpensOver t r)
-  pub begins : IfOk r (λ library. kept_tables library ≡ empty_tables)
+  pub begins : IfOk r (λ library. Holds library empty_tables)
+  pub empty : OnOk r (IfSome old.tables (λ t. t ≡ empty_tables))
   pub tables : Goes (λ t u. u ≡ t) old.tables new.tables
   pub faults : CountsFault (IsErrOf r refusal.KeeperFault) old.faults new.faults
   pub applies : new.applies ≡ old.applies

@@ -6,6 +6,7 @@ use Rattle.keeper_store.specs.Blobs.{OthersKept}
 use Rattle.keeper_store.specs.Changes.{changed_all}
 use Rattle.keeper_store.specs.Goes.{Goes, RoseByOneAtMost}
 use Rattle.keeper_store.specs.Vaults.{VaultView}
+use Rattle.keeper_store.specs.declared.contents.Tables.{Tables}
 use Rattle.library_model.specs.declared.messages.Command.{Command}
 use Rattle.library_model.specs.declared.messages.Request.{Request}
 use Rattle.library_model.specs.declared.messages.Reply.{Reply}
@@ -16,7 +17,7 @@ use Rattle.library_model.specs.State.{State}
 use Rattle.library_model.specs.Machine.{Decides, accepts, Answer}
 use Rattle.library_model.specs.Stands.{tables_of, HoldsFileOf}
 use Rattle.catalogue_core.specs.Committing.{Fits}
-use Rattle.catalogue_core.specs.Kept.{kept_tables}
+use Rattle.catalogue_core.specs.Kept.{Holds, numbers_of}
 use Rattle.catalogue_core.specs.declared.libraries.Library.{Library}
 use Rattle.catalogue_core.specs.declared.prepared.Prepared.{Prepared}
 use Rattle.catalogue_core.specs.declared.prepared.Staged.{Staged}
@@ -57,9 +58,9 @@ LeavesUnlessFailed (Err e) old new = ⊤
 -- What staging does to the library and the vault: the library keeps what it kept, with room for what is ready. The vault
 -- changes once at most, under the next take alone, which holds the file of what is ready.
 pub record Stages (command : Command) (library staged : Library) (old new : VaultView) (r : Result Staged Memory) : Type 0 where
-  pub kept : kept_tables staged ≡ kept_tables library
+  pub held : (t : Tables) → Holds library t → Holds staged t
   pub fits : IfReady r (Fits staged)
-  pub others : Goes (OthersKept (kept_tables library).next_take) old.blobs new.blobs
-  pub file : IfReady r (λ _. Goes (λ _ blobs. HoldsFileOf command (kept_tables library).next_take blobs) old.blobs new.blobs)
+  pub others : Goes (OthersKept (numbers_of library).take) old.blobs new.blobs
+  pub file : IfReady r (λ _. Goes (λ _ blobs. HoldsFileOf command (numbers_of library).take blobs) old.blobs new.blobs)
   pub later : old.faults ≤ new.faults
   pub changes : RoseByOneAtMost old.changes new.changes

@@ -1,14 +1,14 @@
 //! Answering a question.
-ghost use Rattle.std.specs.Prelude.{◌≡◌, ◌==◌, IfOk, option_copied};
+ghost use Rattle.std.specs.Prelude.{◌≡◌, ◌==◌, IfOk};
 ghost use Rattle.std.specs.List.{find};
 ghost use Rattle.library_model.specs.Machine.{question_reply};
 ghost use Rattle.library_model.specs.State.{State};
 ghost use Rattle.catalogue_core.specs.Asking.{found_row_reply};
-ghost use Rattle.catalogue_core.specs.Kept.{Keeps};
+ghost use Rattle.catalogue_core.specs.Kept.{Holds, Keeps};
 
 use crate::Library;
 use json_bodies::{describe_row, refuse};
-use keeper_store::{RecordingRow, Vault};
+use keeper_store::{RecordingRow, Tables, Vault};
 use lib_base::Memory;
 use library_model::{Question, Refusal, Reply};
 
@@ -25,17 +25,11 @@ pub fn ask<V: Vault>(library: &Library, question: &Question, vault: &mut V) -> R
 
 /// Answers a question after the recording of an id.
 fn ask_recording(library: &Library, id: u32) -> Result<Reply, Memory>
-    ensures { IfOk result (λ reply. reply ≡ found_row_reply (find (λ (row : RecordingRow). row.id == id) library.now.recordings.items)) }
+    ensures { (t : Tables) → Holds library.now t
+        → IfOk result (λ reply. reply ≡ found_row_reply (find (λ (row : RecordingRow). row.id == id) t.recordings)) }
 {
-    match row_of(library.recordings.as_slice(), id) {
+    match library.rows.recording(id) {
         Some(row) => describe_row(library.alloc, 200, row),
         None => refuse(library.alloc, Refusal::NoRecording),
     }
-}
-
-/// The row of an id.
-fn row_of(rows: &[RecordingRow], id: u32) -> Option<&RecordingRow>
-    ensures { option_copied result ≡ find (λ (row : RecordingRow). row.id == id) rows.now }
-{
-    rows.iter().find(|row| row.id == id)
 }

@@ -1,6 +1,7 @@
 //! The library: the rows that it keeps, and its opening.
 use crate::opening::{bad_row, library_of};
-use keeper_store::{Keeper, RecordingRow, SegmentRow};
+use catalogue_rows::CatalogueRows;
+use keeper_store::Keeper;
 use lib_base::Outside;
 use std::alloc::Global;
 
@@ -24,15 +25,11 @@ pub enum OpenRefusal {
     Memory,
 }
 
-/// The library: its counters, and the rows of its recordings and of their segments. It holds no file.
+/// The library: its counters and rows. It holds no file.
 #[derive(Debug, Drop)]
 pub struct Library {
     pub(crate) alloc: Global,
-    pub(crate) next_album: u32,
-    pub(crate) next_recording: u32,
-    pub(crate) next_take: u32,
-    pub(crate) recordings: Vec<RecordingRow>,
-    pub(crate) segments: Vec<SegmentRow>,
+    pub(crate) rows: CatalogueRows,
 }
 
 impl Library {

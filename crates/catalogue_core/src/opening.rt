@@ -1,10 +1,11 @@
 //! What opening a library looks at.
 ghost use Rattle.std.specs.Prelude.{◌≡◌, None};
 ghost use Rattle.keeper_store.specs.Changes.{empty_tables};
-ghost use Rattle.catalogue_core.specs.Kept.{kept_tables};
+ghost use Rattle.catalogue_core.specs.Kept.{Holds};
 ghost use Rattle.catalogue_core.specs.Opening.{first_bad};
 
 use crate::{BadRow, Library};
+use catalogue_rows::CatalogueRows;
 use keeper_store::Tables;
 use std::alloc::Global;
 
@@ -30,15 +31,11 @@ pub fn bad_row(tables: &Tables) -> Option<BadRow>
 /// The library of tables that break no rule.
 pub fn library_of(alloc: Global, tables: Tables) -> Library
     requires { first_bad tables ≡ None }
-    ensures same { kept_tables result ≡ tables }
-    ensures begins { kept_tables result ≡ empty_tables }
+    ensures holds { Holds result tables }
+    ensures empty { tables ≡ empty_tables }
 {
     Library {
         alloc,
-        next_album: tables.next_album,
-        next_recording: tables.next_recording,
-        next_take: tables.next_take,
-        recordings: tables.recordings.into_vec(),
-        segments: tables.segments.into_vec(),
+        rows: CatalogueRows::of(tables),
     }
 }

@@ -4,14 +4,14 @@ ghost use Rattle.keeper_store.specs.EnergyBytes.{AreEnergies};
 ghost use Rattle.library_model.specs.State.{State};
 ghost use Rattle.measure_pool.specs.declared.plans.TheConstants.{MOST_WORKERS};
 ghost use Rattle.catalogue_core.specs.Imports.{StagesAccepted, lacks_numbers};
-ghost use Rattle.catalogue_core.specs.Kept.{kept_tables, Keeps};
+ghost use Rattle.catalogue_core.specs.Kept.{Keeps, numbers_of};
 ghost use Rattle.catalogue_core.specs.Staging.{StagedFrom, Stages, LeavesUnlessFailed};
 
 use crate::examining::{Examined, examine};
 use crate::importing::prepare_import;
 use crate::{Library, Staged};
 use json_bodies::{refuse, refuse_format};
-use keeper_store::Vault;
+use keeper_store::{NextNumbers, Vault};
 use lib_base::{Bytes, Measured, Memory, Outside, Steps, Summary};
 use library_model::{Command, Refusal, Request};
 use measure_pool::Gate;
@@ -82,25 +82,26 @@ fn stage_accepted<V: Vault>(
     vault: &mut V,
 ) -> Result<Staged, Memory>
     requires { AreEnergies measured.now.energies }
-    ensures accepted { IfOk result (StagesAccepted (kept_tables library.old) file.now measured.now summary
+    ensures accepted { IfOk result (StagesAccepted (numbers_of library.old) file.now measured.now summary
         (V.shown vault.old).faults (V.shown vault.new).faults) }
     ensures stages { Stages (Command.Import file.now) library.old library.new (V.shown vault.old) (V.shown vault.new) result }
     ensures untouched { LeavesUnlessFailed result vault.old vault.new }
 {
     let alloc = library.alloc;
-    if has_no_number(library) {
+    let next = library.rows.next_numbers();
+    if lacks_numbers(next) {
         return Ok(Staged::Refused(refuse(alloc, Refusal::Ids)?));
     }
     let ready = prepare_import(library, file, measured, summary)?;
-    match vault.put(library.next_take, file) {
+    match vault.put(next.take, file) {
         Ok(()) => Ok(Staged::Ready(ready)),
         Err(Outside::Failed) => Ok(Staged::Refused(refuse(alloc, Refusal::Vault)?)),
         Err(Outside::Memory) => Err(Memory),
     }
 }
 
-fn has_no_number(library: &Library) -> bool
-    ensures { result ≡ lacks_numbers (kept_tables library.now) }
+fn lacks_numbers(next: NextNumbers) -> bool
+    ensures { result ≡ lacks_numbers next }
 {
-    library.next_recording >= NUMBERS_END || library.next_take >= NUMBERS_END
+    next.recording >= NUMBERS_END || next.take >= NUMBERS_END
 }

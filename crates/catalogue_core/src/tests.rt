@@ -1,6 +1,5 @@
 //! The library over a keeper and a vault in memory.
-ghost use Rattle.std.specs.Prelude.{◌≡◌, ◌≤◌, ◌<◌, Some};
-ghost use Rattle.catalogue_core.specs.Kept.{kept_tables};
+ghost use Rattle.std.specs.Prelude.{◌≡◌, ◌≤◌, ◌<◌};
 ghost use Rattle.measure_pool.specs.declared.plans.TheConstants.{MOST_WORKERS};
 
 use crate::{Library, OpenRefusal, Staged, ask, commit, stage};
@@ -32,10 +31,7 @@ fn import<R: Threads + Sync>(
     file: &[u8],
     keeper: &mut MemKeeper,
     vault: &mut MemVault,
-) -> Result<Reply, Memory>
-    requires { (⟦<MemKeeper as Keeper>⟧.shown keeper.old).tables ≡ Some (kept_tables library.old) }
-    ensures { (⟦<MemKeeper as Keeper>⟧.shown keeper.new).tables ≡ Some (kept_tables library.new) }
-{
+) -> Result<Reply, Memory> {
     import_by::<R, OpenGate, Brand>(
         rt,
         library,
@@ -59,13 +55,11 @@ fn import_by<R: Threads + Sync, G: Gate, L: Ledger>(
     gate: &G,
     blank: Blank,
 ) -> Result<Reply, Memory>
-    requires kept { (⟦<MemKeeper as Keeper>⟧.shown keeper.old).tables ≡ Some (kept_tables library.old) }
     requires some { 1 ≤ workers }
     requires most { workers ≤ MOST_WORKERS }
     requires name { blank.name ≡ L.name }
     requires parts { blank.parts ≡ L.parts }
     requires share { 0 < blank.parts }
-    ensures { (⟦<MemKeeper as Keeper>⟧.shown keeper.new).tables ≡ Some (kept_tables library.new) }
 {
     let bytes = Bytes::copy(library.alloc, file)?;
     let request = Request {

@@ -1,7 +1,6 @@
 -- Rows that ascend by their ids, and the one of an id.
-use Rattle.std.proofs.Common.{◌≡◌, ◌≢◌, ◌==◌, ◌<◌, ◌≤◌, ℕ, true, false, nat_lt, Option, None, Some, List, [], ◌∷◌, length, slice_get, zero, suc, refl, sym, subst, arith, inl, inr}
+use Rattle.std.proofs.Common.{◌≡◌, ◌≢◌, ◌==◌, ◌<◌, ◌≤◌, ℕ, true, false, nat_lt, Option, None, Some, List, [], ◌∷◌, length, zero, suc, refl, sym, subst, arith, inl, inr}
 use Rattle.std.proofs.Math.ListN.{get_or}
-use Rattle.std.proofs.lemmas.Option.{none-some, same_Some}
 use Rattle.std.proofs.lemmas.Bool.Decides.{nat_tests, leb_tells, eqb_tells}
 use Rattle.std.specs.List.{find}
 use Rattle.keeper_store.specs.declared.row_types.RecordingRow.{RecordingRow}
@@ -25,18 +24,6 @@ lesser_in_front id rows rise i j d at_most within below =
           Ascends-at recording_less rows rise i j d (omega (arith, at_most, differs)) within in
           grind (arith, nat_tests, up, below)
     ]
-
--- the row that is got at a place stands there
-got : {A : Type 0} → (xs : List A) (i : ℕ) (x : A) → slice_get xs i ≡ Some x → (i < length xs) × (x ≡ get_or xs i x)
-got [] i x is = absurd (none-some is)
-got (y ∷ xs) zero x is = (omega arith, sym (same_Some is))
-got (y ∷ xs) (suc i) x is = let rest = got xs i x is in (omega (arith, rest.0), rest.1)
-
--- none is got past the last row
-got_none : {A : Type 0} → (xs : List A) (i : ℕ) → slice_get xs i ≡ None → length xs ≤ i
-got_none [] i is = omega arith
-got_none (y ∷ xs) zero is = absurd (none-some (sym is))
-got_none (y ∷ xs) (suc i) is = let rest = got_none xs i is in omega (arith, rest)
 
 -- an id that no row has is not found
 not_found : (id : ℕ) (d : RecordingRow) (rows : List RecordingRow) → ((k : ℕ) → k < length rows → (get_or rows k d).id ≢ id)
@@ -62,40 +49,35 @@ first_found id (x ∷ rows) (suc place) row within is same before =
 
 -- at the place of an id its row stands
 pub found_at : (id : ℕ) (rows : List RecordingRow) (place : ℕ) (row : RecordingRow) → IsPlaceOfId id rows place
-    → slice_get rows place ≡ Some row → row.id ≡ id → Some row ≡ row_of_id id rows
-found_at id rows place row at there same =
-    let stands = got rows place row there in
-    sym (first_found id rows place row stands.0 stands.1 same (λ k d here. let below = at.before k d here in omega (arith, below)))
+    → place < length rows → row ≡ get_or rows place row → row.id ≡ id → Some row ≡ row_of_id id rows
+found_at id rows place row at inside is same =
+    sym (first_found id rows place row inside is same (λ k d here. let below = at.before k d here in omega (arith, below)))
 
 -- or no row of it is there
 pub missing_at : (id : ℕ) (rows : List RecordingRow) (place : ℕ) (row : RecordingRow) → Ascends recording_less rows
-    → IsPlaceOfId id rows place → slice_get rows place ≡ Some row → row.id ≢ id → None ≡ row_of_id id rows
-missing_at id rows place row rise at there differs = sym (not_found id row rows other)
+    → IsPlaceOfId id rows place → place < length rows → row ≡ get_or rows place row → row.id ≢ id → None ≡ row_of_id id rows
+missing_at id rows place row rise at inside is differs = sym (not_found id row rows other)
   where
-    stands : (place < length rows) × (row ≡ get_or rows place row)
-    stands = got rows place row there
-
     later : (k : ℕ) → k < length rows → place ≤ k → place ≢ k → (get_or rows k row).id ≢ id
     later k within behind apart =
         let up : nat_lt (get_or rows place row).id (get_or rows k row).id ≡ true =
         Ascends-at recording_less rows rise place k row (omega (arith, apart, behind)) within in
         let greater : (get_or rows place row).id < (get_or rows k row).id = grind (arith, nat_tests, up) in
-        let least = at.behind place row (omega arith) stands.0 in
+        let least = at.behind place row (omega arith) inside in
         omega (arith, greater, least)
 
     other : (k : ℕ) → k < length rows → (get_or rows k row).id ≢ id
     other k within = elim (leb_tells place k) [
       | inr h ↦ let below = at.before k row h.1 in omega (arith, below)
       | inl h ↦ elim (eqb_tells place k) [
-        | inl e ↦ subst (λ (n : ℕ). (get_or rows n row).id ≢ id) e.1 (subst (λ (r : RecordingRow). r.id ≢ id) stands.1 differs)
+        | inl e ↦ subst (λ (n : ℕ). (get_or rows n row).id ≢ id) e.1 (subst (λ (r : RecordingRow). r.id ≢ id) is differs)
         | inr e ↦ later k within h.1 e.1
       ]
     ]
 
 -- past the last row there is none
 pub missing_past : (id : ℕ) (rows : List RecordingRow) (place : ℕ) → IsPlaceOfId id rows place
-    → slice_get rows place ≡ None → None ≡ row_of_id id rows
-missing_past id [] place at none = refl
-missing_past id (x ∷ rows) place at none =
-    let past = got_none (x ∷ rows) place none in
+    → length rows ≤ place → None ≡ row_of_id id rows
+missing_past id [] place at past = refl
+missing_past id (x ∷ rows) place at past =
     sym (not_found id x (x ∷ rows) (λ k within. let below = at.before k x (omega (arith, within, past)) in omega (arith, below)))

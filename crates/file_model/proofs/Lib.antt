@@ -1,6 +1,7 @@
 pub mod BitsLemmas
 pub mod CrcLemmas
 pub mod FieldsLemmas
+pub mod FlacLaws
 pub mod FrameLaws
 pub mod Interleaving
 pub mod Makes

@@ -1,4 +1,6 @@
 pub mod Readings
+pub mod RequestLaws
 pub mod Runs
 pub mod WorkedFraming
+pub mod WorkedRequests
 pub mod WorkedSpelling

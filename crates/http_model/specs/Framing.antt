@@ -10,6 +10,7 @@ use Rattle.library_model.specs.declared.messages.Command.TheVariants.{Import}
 use Rattle.library_model.specs.declared.messages.Question.TheVariants as about
 use Rattle.library_model.specs.declared.messages.Reply.{Reply}
 use Rattle.library_model.specs.Asked.{Asked, change, question}
+use Rattle.library_model.specs.Exchanges.{Exchange}
 use Rattle.library_model.specs.State.{numbers_end}
 use Rattle.http_model.specs.declared.refusals.FramingRefusal.TheVariants.{Frame, Size}
 use Rattle.http_model.specs.Refusals.{framing_refusal}
@@ -108,8 +109,8 @@ ending ended = []
 ending (unframeable reply) = spelled true reply
 
 -- the bytes that answer an input: the replies to its requests, one after another, and then its ending
-abbrev pub output : List Reply → End → List ℕ
-output replies end = spelled_all replies ++ ending end
+abbrev pub output : List Exchange → End → List ℕ
+output exchanges end = spelled_all exchanges ++ ending end
 
 -- what is left after the requests ends them so
 abbrev pub EndsAs : List ℕ → End → Type 0

@@ -1,3 +1,4 @@
 pub mod Framing
 pub mod Refusals
+pub mod Requests
 pub mod Spelling

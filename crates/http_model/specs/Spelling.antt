@@ -3,6 +3,7 @@ use Rattle.std.specs.Prelude.{ℕ, Bool, true, false, List, [], ◌∷◌, ◌++
 use Rattle.library_model.specs.declared.messages.BodyKind.{BodyKind}
 use Rattle.library_model.specs.declared.messages.BodyKind.TheVariants.{Json, Csv, Wave, Flac}
 use Rattle.library_model.specs.declared.messages.Reply.{Reply}
+use Rattle.library_model.specs.Exchanges.{Exchange}
 
 -- a line of that text
 abbrev pub line : List ℕ → List ℕ
@@ -49,7 +50,7 @@ spelled_head closes reply =
 abbrev pub spelled : Bool → Reply → List ℕ
 spelled closes reply = spelled_head closes reply ++ reply.body
 
--- the bytes of replies after which the connection stays, one after another
-abbrev pub spelled_all : List Reply → List ℕ
+-- the bytes of the replies of exchanges after which the connection stays, one after another
+abbrev pub spelled_all : List Exchange → List ℕ
 spelled_all [] = []
-spelled_all (reply ∷ replies) = spelled false reply ++ spelled_all replies
+spelled_all (e ∷ exchanges) = spelled false e.reply ++ spelled_all exchanges

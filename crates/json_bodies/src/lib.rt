@@ -1,9 +1,15 @@
-//! Bodies of JSON (RFC 8259): those of replies, written.
+//! Bodies of JSON (RFC 8259): those of replies, written, and those of requests, read.
 //!
-//! A reply's body is exactly that of the library's definitions, or memory wants. Only this crate
-//! uses `serde_json`.
+//! A reply's body is exactly that of the library's definitions, and a request's body says exactly
+//! what they say that it says, or memory wants. Only this crate uses `serde_json`.
 #![tactic(auto)]
 
+mod names;
 mod replies;
+mod requests;
+#[cfg(test)]
+mod tests;
 
+pub use names::is_name;
 pub use replies::{describe_row, refuse, refuse_format};
+pub use requests::{read_album, read_name};

@@ -1,6 +1,7 @@
 -- How a session ends, and what it did by then.
-use Rattle.std.proofs.Common.{◌≡◌, ◌≢◌, ◌≤◌, ◌+◌, ℕ, List, [], length, Option, None, Some, refl, sym, subst, true, inl, inr, arith}
+use Rattle.std.proofs.Common.{◌≡◌, ◌≢◌, ◌≤◌, ◌+◌, ◌⊎◌, ℕ, List, [], length, Option, None, Some, refl, sym, subst, true, inl, inr, arith}
 use Rattle.std.specs.Io.KnownBytes.{Consumes, IsAtEnd}
+use Rattle.lib_base.specs.Faults.{Rose}
 use Rattle.lib_base.specs.Sources.{SourceView}
 use Rattle.lib_base.specs.Writes.{SinkView}
 use Rattle.lib_base.specs.declared.sources.ReadEnd.{ReadEnd}
@@ -18,7 +19,7 @@ use Rattle.library_http.specs.declared.serving.Stop.TheVariants.{AtEnd, AtRefusa
 use Rattle.library_http.specs.Sessions.{EndsAfter, EndsBy, Session, Stops}
 use Rattle.library_http.specs.World.{World}
 use Rattle.library_http.proofs.Goings.{Appends-none}
-use Rattle.library_http.proofs.ServingLemmas.{Leads-same, Counts-none, Answered-too-long, BreaksOffAtEnd-refusal, Appends-ended, Appends-refused}
+use Rattle.library_http.proofs.ServingLemmas.{Leads-same, Counts-none, Answered-too-long, BreaksOff-refusal, BreaksOff-reply, Appends-ended, Appends-refused}
 
 -- nothing was taken
 pub Consumes-none : (a : Option (List ℕ)) → Consumes a a []
@@ -31,14 +32,14 @@ pub Session-unread : (start : State) (source : SourceView) (sink : SinkView) (w 
 Session-unread start source sink w keeps = (
   [],
   Consumes-none source.left,
-  inr (inr (record {
+  inr (record {
     nothing = refl;
     none = refl;
     written = Appends-none sink.written;
     leads = Leads-same start w keeps;
     counts = Counts-none w;
     calls = refl;
-  })),
+  }),
 )
 
 -- an input that is too long is refused alone
@@ -60,14 +61,14 @@ Session-too-long start Unframeable source rest sink0 sink1 input w keeps long to
 Session-too-long start SinkFault source rest sink0 sink1 input w keeps long took ends = (
   input,
   took,
-  inr (BreaksOffAtEnd-refusal start input (framing_refusal Size) 0 [] rest sink0 sink0 sink1 w w (omega arith)
-      (λ within. absurd (omega arith)) (Answered-too-long start input w keeps (omega arith)) (Appends-none sink0.written) ends),
+  BreaksOff-refusal start input (framing_refusal Size) 0 [] source rest sink0 sink0 sink1 w w (omega arith)
+      (λ within. absurd (omega arith)) (Answered-too-long start input w keeps (omega arith)) (Appends-none sink0.written) ends,
 )
 Session-too-long start Memory source rest sink0 sink1 input w keeps long took ends = (
   input,
   took,
-  inr (inl (BreaksOffAtEnd-refusal start input (framing_refusal Size) 0 [] rest sink0 sink0 sink1 w w (omega arith)
-      (λ within. absurd (omega arith)) (Answered-too-long start input w keeps (omega arith)) (Appends-none sink0.written) ends)),
+  inl (BreaksOff-refusal start input (framing_refusal Size) 0 [] source rest sink0 sink0 sink1 w w (omega arith)
+      (λ within. absurd (omega arith)) (Answered-too-long start input w keeps (omega arith)) (Appends-none sink0.written) ends),
 )
 
 -- a refusal that ends a whole input
@@ -87,9 +88,9 @@ Session-refused start Unframeable n source rest sink0 sink1 sink2 input w0 w1 sh
   stops.2,
 )
 Session-refused start SinkFault n source rest sink0 sink1 sink2 input w0 w1 short took at_end stops ends =
-    (input, took, inr (BreaksOffAtEnd-refusal start input (framing_refusal Frame) n stops.0 rest sink0 sink1 sink2 w0 w1 (omega arith) (λ _. at_end) stops.2 stops.1 ends))
+    (input, took, BreaksOff-refusal start input (framing_refusal Frame) n stops.0 source rest sink0 sink1 sink2 w0 w1 (omega arith) (λ _. at_end) stops.2 stops.1 ends)
 Session-refused start Memory n source rest sink0 sink1 sink2 input w0 w1 short took at_end stops ends =
-    (input, took, inr (inl (BreaksOffAtEnd-refusal start input (framing_refusal Frame) n stops.0 rest sink0 sink1 sink2 w0 w1 (omega arith) (λ _. at_end) stops.2 stops.1 ends)))
+    (input, took, inl (BreaksOff-refusal start input (framing_refusal Frame) n stops.0 source rest sink0 sink1 sink2 w0 w1 (omega arith) (λ _. at_end) stops.2 stops.1 ends))
 
 -- an end that writes nothing more
 ends_so : (start : State) (how so : How) (n : ℕ) (source rest : SourceView) (sink0 sink1 sink2 : SinkView) (w0 w1 : World)
@@ -98,22 +99,32 @@ ends_so start how so n source rest sink0 sink1 sink2 w0 w1 is same session =
     subst (λ (h : How). Session start h n source rest sink0 sink2 w0 w1) (sym is)
     (subst (λ (t : SinkView). Session start so n source rest sink0 t w0 w1) (sym same) session)
 
+-- an input that is not too long was read to the source's end, or up to a fault
+read_so : (end : ReadEnd) (rest source : SourceView) → (end ≡ End → IsAtEnd rest.left) → (end ≡ Fault → Rose source.faults rest.faults) → end ≢ Full
+    → IsAtEnd rest.left ⊎ Rose source.faults rest.faults
+read_so End rest source at_end rose whole = inl (at_end refl)
+read_so Fault rest source at_end rose whole = inr (rose refl)
+read_so Full rest source at_end rose whole = absurd (whole refl)
+
 -- a session whose serving stopped, and that then ended
 pub Session-after : (start : State) (stop : Stop) (end : ReadEnd) (how : How) (n : ℕ) (source rest : SourceView) (sink0 sink1 sink2 : SinkView)
-    (input : List ℕ) (w0 w1 : World) → length input ≤ input_limit → Consumes source.left rest.left input → (end ≡ End → IsAtEnd rest.left) → end ≢ Full
+    (input : List ℕ) (w0 w1 : World) → length input ≤ input_limit → Consumes source.left rest.left input → (end ≡ End → IsAtEnd rest.left)
+    → (end ≡ Fault → Rose source.faults rest.faults) → end ≢ Full
     → Stops start input stop n sink0 sink1 w0 w1 → EndsAfter stop end how sink1 sink2 → Session start how n source rest sink0 sink2 w0 w1
-Session-after start AtSinkFault end how n source rest sink0 sink1 sink2 input w0 w1 short took at_end whole stops ends =
-    ends_so start how SinkFault n source rest sink0 sink1 sink2 w0 w1 ends.0 ends.1 (input, took, inl stops)
-Session-after start AtMemory end how n source rest sink0 sink1 sink2 input w0 w1 short took at_end whole stops ends =
-    ends_so start how Memory n source rest sink0 sink1 sink2 w0 w1 ends.0 ends.1 (input, took, inl stops)
-Session-after start AtEnd Fault how n source rest sink0 sink1 sink2 input w0 w1 short took at_end whole stops ends =
+Session-after start AtSinkFault end how n source rest sink0 sink1 sink2 input w0 w1 short took at_end rose whole stops ends =
+    ends_so start how SinkFault n source rest sink0 sink1 sink2 w0 w1 ends.0 ends.1
+    (input, took, BreaksOff-reply start input n source rest sink0 sink1 w0 w1 short (read_so end rest source at_end rose whole) stops)
+Session-after start AtMemory end how n source rest sink0 sink1 sink2 input w0 w1 short took at_end rose whole stops ends =
+    ends_so start how Memory n source rest sink0 sink1 sink2 w0 w1 ends.0 ends.1
+    (input, took, inl (BreaksOff-reply start input n source rest sink0 sink1 w0 w1 short (read_so end rest source at_end rose whole) stops))
+Session-after start AtEnd Fault how n source rest sink0 sink1 sink2 input w0 w1 short took at_end rose whole stops ends =
     ends_so start how SourceFault n source rest sink0 sink1 sink2 w0 w1 ends.0 ends.1 (input, took, short, ended, stops.0, stops.1, stops.2)
-Session-after start AtEnd End how n source rest sink0 sink1 sink2 input w0 w1 short took at_end whole stops ends =
+Session-after start AtEnd End how n source rest sink0 sink1 sink2 input w0 w1 short took at_end rose whole stops ends =
     ends_so start how Ended n source rest sink0 sink1 sink2 w0 w1 ends.0 ends.1
     (input, took, at_end refl, stops.0, Appends-ended sink0.written sink1.written stops.0 stops.1, stops.2)
-Session-after start AtEnd Full how n source rest sink0 sink1 sink2 input w0 w1 short took at_end whole stops ends = absurd (whole refl)
-Session-after start AtRefusal Fault how n source rest sink0 sink1 sink2 input w0 w1 short took at_end whole stops ends =
+Session-after start AtEnd Full how n source rest sink0 sink1 sink2 input w0 w1 short took at_end rose whole stops ends = absurd (whole refl)
+Session-after start AtRefusal Fault how n source rest sink0 sink1 sink2 input w0 w1 short took at_end rose whole stops ends =
     ends_so start how SourceFault n source rest sink0 sink1 sink2 w0 w1 ends.0 ends.1 (input, took, short, unframeable (framing_refusal Frame), stops.0, stops.1, stops.2)
-Session-after start AtRefusal End how n source rest sink0 sink1 sink2 input w0 w1 short took at_end whole stops ends =
+Session-after start AtRefusal End how n source rest sink0 sink1 sink2 input w0 w1 short took at_end rose whole stops ends =
     Session-refused start how n source rest sink0 sink1 sink2 input w0 w1 short took (at_end refl) stops ends
-Session-after start AtRefusal Full how n source rest sink0 sink1 sink2 input w0 w1 short took at_end whole stops ends = absurd (whole refl)
+Session-after start AtRefusal Full how n source rest sink0 sink1 sink2 input w0 w1 short took at_end rose whole stops ends = absurd (whole refl)

@@ -10,7 +10,8 @@ use Rattle.library_model.specs.declared.refusals.Refusal.TheVariants as cause
 use Rattle.library_model.specs.Asked.{Asked, IsQuestion}
 use Rattle.http_model.specs.declared.refusals.FramingRefusal.TheVariants as framing
 use Rattle.http_model.specs.Framing.{Begins, BeginWith, BeginNoRequest, RequestsOf, End, ended, unframeable, output, input_limit}
-use Rattle.library_model.specs.Machine.{Verdict, Answer, Answers, AnswersBy, as_decided, without_memory, count_status}
+use Rattle.library_model.specs.Exchanges.{Exchange, exchange, requests_of, Answers, count_status}
+use Rattle.library_model.specs.Machine.{Verdict, Answer, AnswersBy, as_decided, without_memory}
 use Rattle.library_model.specs.Refusals.{status_of}
 use Rattle.library_model.specs.Replies.{refusal}
 use Rattle.http_model.specs.Refusals.{framing_refusal}
@@ -42,9 +43,9 @@ pub record Leads (s next : State) (before now : World) : Type 0 where
   pub files : Goes (λ old new. HoldsFiles old s.recordings → HoldsFiles new next.recordings) before.vault.blobs now.vault.blobs
 
 -- Each reply `Vault` is one by which the vault's count of faults rose, and each `Keeper` one by which the keeper's did.
-pub record Counts (replies : List Reply) (before now : World) : Type 0 where
-  pub vault : RoseBy (count_status (status_of cause.Vault) replies) before.vault.faults now.vault.faults
-  pub keeper : RoseBy (count_status (status_of cause.Keeper) replies) before.keeper.faults now.keeper.faults
+pub record Counts (exchanges : List Exchange) (before now : World) : Type 0 where
+  pub vault : RoseBy (count_status (status_of cause.Vault) exchanges) before.vault.faults now.vault.faults
+  pub keeper : RoseBy (count_status (status_of cause.Keeper) exchanges) before.keeper.faults now.keeper.faults
 
 -- a request was answered as it is decided, or memory was wanting
 abbrev pub IsSettled : State → Asked → Reply → State → Type 0
@@ -58,36 +59,33 @@ pub record Acts (s : State) (request : Asked) (reply : Reply) (before now : Worl
   pub next : State
   pub answers : Answer s request reply next
   pub leads : Leads s next before now
-  pub counts : Counts (reply ∷ []) before now
+  pub counts : Counts (exchange request reply ∷ []) before now
   pub calls : IsQuestion request → now.vault.calls ≡ before.vault.calls
   pub keys : Goes (OthersKept s.next_take) before.vault.blobs now.vault.blobs
   pub complete : ¬ Rose before.vault.faults now.vault.faults → ¬ Rose before.keeper.faults now.keeper.faults
       → IsSettled s request reply next
 
--- The requests were answered in order, each from the state and the world that the one before it left.
-abbrev pub ActInTurn : State → List Asked → List Reply → State → World → World → Type 0
-ActInTurn s [] [] last before now = (last ≡ s) × (now ≡ before)
-ActInTurn s (request ∷ requests) (reply ∷ replies) last before now =
-    (mid : World) × (acts : Acts s request reply before mid) × ActInTurn acts.next requests replies last mid now
-ActInTurn s [] (reply ∷ replies) last before now = ⊥
-ActInTurn s (request ∷ requests) [] last before now = ⊥
+-- The exchanges were made in order, each from the state and the world that the one before it left.
+abbrev pub ActInTurn : State → List Exchange → State → World → World → Type 0
+ActInTurn s [] last before now = (last ≡ s) × (now ≡ before)
+ActInTurn s (e ∷ exchanges) last before now =
+    (mid : World) × (acts : Acts s e.request e.reply before mid) × ActInTurn acts.next exchanges last mid now
 
--- The bytes are requests and then rest, and the requests were answered in order, each from the state that the one before
--- it left. Where all were questions, the vault was not called.
-pub record Serves (start : State) (bytes rest : List ℕ) (replies : List Reply) (before now : World) : Type 0 where
-  pub requests : List Asked
+-- The bytes are the requests of these exchanges and then rest, and the exchanges were made in order.
+pub record Serves (start : State) (bytes rest : List ℕ) (exchanges : List Exchange) (before now : World) : Type 0 where
   pub state : State
-  pub begins : BeginWith bytes requests rest
-  pub answers : Answers start requests replies state
-  pub leads : Leads start state before now
-  pub counts : Counts replies before now
-  pub calls : AllByRecursion IsQuestion requests → now.vault.calls ≡ before.vault.calls
-  pub turns : ActInTurn start requests replies state before now
+  pub begins : BeginWith bytes (requests_of exchanges) rest
+  pub turns : ActInTurn start exchanges state before now
 
 -- the reply, or that to want of memory
 abbrev pub reply_given : Option Reply → Reply
 reply_given (Some reply) = reply
 reply_given None = refusal cause.Memory
+
+-- a text was written in part, after others
+abbrev pub AppendsInPart : List ℕ → List ℕ → Option (List ℕ) → Option (List ℕ) → Type 0
+AppendsInPart others text before now =
+    (part : List ℕ) × (unwritten : List ℕ) × (text ≡ part ++ unwritten) × (unwritten ≢ []) × Appends before now (others ++ part)
 
 -- a request was answered, and its reply was written
 pub record Replied (s : State) (request : Asked) (sink_before sink_now : SinkView) (before now : World) : Type 0 where
@@ -101,55 +99,67 @@ pub record PartlyReplied (s : State) (request : Asked) (sink_before sink_now : S
   pub acts : Acts s request reply before now
   pub written : AppendsPart sink_before.written sink_now.written (spelled false reply)
 
--- the requests at the front of the bytes were answered, and their replies, as many as `answered`, were written
+-- the requests at the front of the bytes were answered, as many as `answered`, and their replies were written
 pub record Progress (start : State) (bytes rest : List ℕ) (answered : ℕ) (sink_before sink_now : SinkView) (before now : World) : Type 0 where
-  pub replies : List Reply
-  pub serves : Serves start bytes rest replies before now
-  pub counted : answered ≡ length replies
-  pub written : Appends sink_before.written sink_now.written (spelled_all replies)
+  pub exchanges : List Exchange
+  pub serves : Serves start bytes rest exchanges before now
+  pub counted : answered ≡ length exchanges
+  pub written : Appends sink_before.written sink_now.written (spelled_all exchanges)
 
 -- All the requests of an input were answered, as many as `answered`, and it ends so. No other requests are those of the
 -- input. Where all were questions, the vault was not called.
-pub record Answered (start : State) (input : List ℕ) (end : End) (answered : ℕ) (replies : List Reply) (before now : World) : Type 0 where
-  pub requests : List Asked
+pub record Answered (start : State) (input : List ℕ) (end : End) (answered : ℕ) (exchanges : List Exchange) (before now : World) : Type 0 where
   pub state : State
-  pub reads : RequestsOf input requests end
-  pub only : (others : List Asked) (other : End) → RequestsOf input others other → (others ≡ requests) × (other ≡ end)
-  pub answers : Answers start requests replies state
-  pub counted : answered ≡ length requests
+  pub reads : RequestsOf input (requests_of exchanges) end
+  pub only : (others : List Asked) (other : End) → RequestsOf input others other → (others ≡ requests_of exchanges) × (other ≡ end)
+  pub answers : Answers start exchanges state
+  pub counted : answered ≡ length exchanges
   pub leads : Leads start state before now
-  pub counts : Counts replies before now
-  pub calls : AllByRecursion IsQuestion requests → now.vault.calls ≡ before.vault.calls
-  pub turns : ActInTurn start requests replies state before now
+  pub counts : Counts exchanges before now
+  pub calls : AllByRecursion IsQuestion (requests_of exchanges) → now.vault.calls ≡ before.vault.calls
+  pub turns : ActInTurn start exchanges state before now
 
--- A session broke off in a reply: as many requests as `answered` were answered whole, and the next one acted, of whose reply
--- a part was written.
-pub record BreaksOff (start : State) (input : List ℕ) (answered : ℕ) (sink_before sink_now : SinkView) (before now : World) : Type 0 where
-  pub within : length input ≤ input_limit
-  pub replies : List Reply
-  pub reply : Reply
+-- These exchanges were made, as many as `answered`, and their replies were written. The next one was made too, and a part
+-- of its reply was written.
+pub record StopsInReply (start : State) (input : List ℕ) (answered : ℕ) (sink_before sink_now : SinkView) (before now : World) : Type 0 where
+  pub exchanges : List Exchange
+  pub last : Exchange
   pub rest : List ℕ
-  pub serves : Serves start input rest (replies ++ reply ∷ []) before now
-  pub part : List ℕ
-  pub unwritten : List ℕ
-  pub cut : spelled false reply ≡ part ++ unwritten
-  pub left_over : unwritten ≢ []
-  pub written : Appends sink_before.written sink_now.written (spelled_all replies ++ part)
-  pub counted : answered ≡ length replies
+  pub serves : Serves start input rest (exchanges ++ last ∷ []) before now
+  pub written : AppendsInPart (spelled_all exchanges) (spelled false last.reply) sink_before.written sink_now.written
+  pub counted : answered ≡ length exchanges
 
--- A session broke off in the refusal that ends its input, which was read whole: all its requests were answered, and a part
--- of the refusal was written.
-pub record BreaksOffAtEnd (start : State) (input : List ℕ) (answered : ℕ) (source_now : SourceView) (sink_before sink_now : SinkView) (before now : World) : Type 0 where
+-- A reply was due: the input was read to the end of the source, or up to a fault by which the source's count rose, and the
+-- exchange of that reply was made after the others.
+pub record ReplyDue (start : State) (input : List ℕ) (source_before source_now : SourceView) (exchanges : List Exchange) (text : List ℕ)
+    (before now : World) : Type 0 where
+  pub within : length input ≤ input_limit
+  pub read : IsAtEnd source_now.left ⊎ Rose source_before.faults source_now.faults
+  pub last : Exchange
+  pub rest : List ℕ
+  pub serves : Serves start input rest (exchanges ++ last ∷ []) before now
+  pub spells : text ≡ spelled false last.reply
+
+-- The refusal that ends the input was due: the input was read to the end of the source, or past the limit, and these
+-- exchanges are all that it asks for.
+pub record RefusalDue (start : State) (input : List ℕ) (source_now : SourceView) (exchanges : List Exchange) (text : List ℕ)
+    (before now : World) : Type 0 where
   pub within : length input ≤ input_limit + 1
-  pub whole : length input ≤ input_limit → IsAtEnd source_now.left
-  pub replies : List Reply
+  pub read : length input ≤ input_limit → IsAtEnd source_now.left
   pub reply : Reply
-  pub answers : Answered start input (unframeable reply) answered replies before now
-  pub part : List ℕ
-  pub unwritten : List ℕ
-  pub cut : spelled true reply ≡ part ++ unwritten
-  pub left_over : unwritten ≢ []
-  pub written : Appends sink_before.written sink_now.written (spelled_all replies ++ part)
+  pub answers : Answered start input (unframeable reply) (length exchanges) exchanges before now
+  pub spells : text ≡ spelled true reply
+
+-- A session broke off in a text that was due: as many requests as `answered` were answered whole, and a part of the text
+-- was written.
+pub record BreaksOff (start : State) (input : List ℕ) (answered : ℕ) (source_before source_now : SourceView)
+    (sink_before sink_now : SinkView) (before now : World) : Type 0 where
+  pub exchanges : List Exchange
+  pub text : List ℕ
+  pub due : ReplyDue start input source_before source_now exchanges text before now
+      ⊎ RefusalDue start input source_now exchanges text before now
+  pub written : AppendsInPart (spelled_all exchanges) text sink_before.written sink_now.written
+  pub counted : answered ≡ length exchanges
 
 -- A session found no memory to read into, and did nothing.
 pub record Unread (start : State) (input : List ℕ) (answered : ℕ) (sink_before sink_now : SinkView) (before now : World) : Type 0 where
@@ -187,12 +197,12 @@ Turns s bytes (Stopped AtMemory) sink_before sink_now before now =
 -- What serving the requests of an input does that stops so.
 abbrev pub Stops : State → List ℕ → Stop → ℕ → SinkView → SinkView → World → World → Type 0
 Stops start input AtEnd answered sink_before sink_now before now =
-    (replies : List Reply) × Appends sink_before.written sink_now.written (spelled_all replies) × Answered start input ended answered replies before now
+    (exchanges : List Exchange) × Appends sink_before.written sink_now.written (spelled_all exchanges) × Answered start input ended answered exchanges before now
 Stops start input AtRefusal answered sink_before sink_now before now =
-    (replies : List Reply) × Appends sink_before.written sink_now.written (spelled_all replies)
-    × Answered start input (unframeable (framing_refusal framing.Frame)) answered replies before now
-Stops start input AtSinkFault answered sink_before sink_now before now = BreaksOff start input answered sink_before sink_now before now
-Stops start input AtMemory answered sink_before sink_now before now = BreaksOff start input answered sink_before sink_now before now
+    (exchanges : List Exchange) × Appends sink_before.written sink_now.written (spelled_all exchanges)
+    × Answered start input (unframeable (framing_refusal framing.Frame)) answered exchanges before now
+Stops start input AtSinkFault answered sink_before sink_now before now = StopsInReply start input answered sink_before sink_now before now
+Stops start input AtMemory answered sink_before sink_now before now = StopsInReply start input answered sink_before sink_now before now
 
 -- what writing the refusal that ends a session does, which ends so
 abbrev pub EndsBy : How → List ℕ → SinkView → SinkView → Type 0
@@ -218,26 +228,24 @@ EndsAfter AtRefusal read.Full how sink_before sink_now = EndsBy how (spelled tru
 abbrev pub Session : State → How → ℕ → SourceView → SourceView → SinkView → SinkView → World → World → Type 0
 Session start Ended answered source_before source_now sink_before sink_now before now =
     (input : List ℕ) × Consumes source_before.left source_now.left input × IsAtEnd source_now.left
-    × (replies : List Reply) × Appends sink_before.written sink_now.written (output replies ended)
-    × Answered start input ended answered replies before now
+    × (exchanges : List Exchange) × Appends sink_before.written sink_now.written (output exchanges ended)
+    × Answered start input ended answered exchanges before now
 Session start Unframeable answered source_before source_now sink_before sink_now before now =
     (input : List ℕ) × Consumes source_before.left source_now.left input
     × (length input ≤ input_limit + 1) × (length input ≤ input_limit → IsAtEnd source_now.left)
-    × (reply : Reply) × (replies : List Reply) × Appends sink_before.written sink_now.written (output replies (unframeable reply))
-    × Answered start input (unframeable reply) answered replies before now
+    × (reply : Reply) × (exchanges : List Exchange) × Appends sink_before.written sink_now.written (output exchanges (unframeable reply))
+    × Answered start input (unframeable reply) answered exchanges before now
 Session start SourceFault answered source_before source_now sink_before sink_now before now =
     (input : List ℕ) × Consumes source_before.left source_now.left input × (length input ≤ input_limit)
-    × (end : End) × (replies : List Reply) × Appends sink_before.written sink_now.written (spelled_all replies)
-    × Answered start input end answered replies before now
+    × (end : End) × (exchanges : List Exchange) × Appends sink_before.written sink_now.written (spelled_all exchanges)
+    × Answered start input end answered exchanges before now
 Session start SinkFault answered source_before source_now sink_before sink_now before now =
     (input : List ℕ) × Consumes source_before.left source_now.left input
-    × (BreaksOff start input answered sink_before sink_now before now
-    ⊎ BreaksOffAtEnd start input answered source_now sink_before sink_now before now)
+    × BreaksOff start input answered source_before source_now sink_before sink_now before now
 Session start Memory answered source_before source_now sink_before sink_now before now =
     (input : List ℕ) × Consumes source_before.left source_now.left input
-    × (BreaksOff start input answered sink_before sink_now before now
-    ⊎ (BreaksOffAtEnd start input answered source_now sink_before sink_now before now
-    ⊎ Unread start input answered sink_before sink_now before now))
+    × (BreaksOff start input answered source_before source_now sink_before sink_now before now
+    ⊎ Unread start input answered sink_before sink_now before now)
 
 -- What a session does to the counts of faults, which ends so: none falls, that of the source rose where it ended by the
 -- source's fault, and that of the sink where it ended by the sink's.

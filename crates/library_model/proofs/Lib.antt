@@ -1,4 +1,3 @@
-pub mod Runs
 pub mod WorkedNames
 pub mod InOrderLemmas
 pub mod Imports

@@ -3,7 +3,8 @@ use Rattle.std.proofs.Common.{◌≡◌, true, false, None, Some, [], ◌∷◌,
 use Rattle.std.specs.Char.{encode_utf8}
 use Rattle.std.specs.Str.{chars, is_utf8}
 use Rattle.serde_json.proofs.OnLiterals.{serde_json_on_literals}
-use Rattle.library_model.specs.Named.{is_name, name_in, album_in}
+use Rattle.library_model.specs.Named.{name_in, album_in}
+use Rattle.library_model.specs.Names.{is_name}
 
 -- ---- names
 
@@ -24,14 +25,17 @@ is_name-longest = refl
 
 -- One more is none.
 pub is_name-too_long : is_name (replicate 201 97) ≡ false
+unfolding is_utf8 chars encode_utf8
 is_name-too_long = refl
 
 -- A control is none.
 pub is_name-control : is_name (97 ∷ 31 ∷ []) ≡ false
+unfolding is_utf8 chars encode_utf8
 is_name-control = refl
 
 -- Nor is DEL.
 pub is_name-delete : is_name (127 ∷ []) ≡ false
+unfolding is_utf8 chars encode_utf8
 is_name-delete = refl
 
 -- Nor is the front of a character.

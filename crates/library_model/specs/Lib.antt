@@ -1,10 +1,13 @@
 pub mod Asked
 pub mod Bodies
+pub mod Exchanges
 pub mod Findings
 pub mod InOrder
 pub mod Machine
 pub mod Named
+pub mod Names
 pub mod Refusals
 pub mod Replies
 pub mod Stands
+pub mod RowRules
 pub mod State

@@ -1,5 +1,5 @@
 -- The library as a machine: how it answers a request, and where it goes from there.
-use Rattle.std.specs.Prelude.{◌≡◌, ◌+◌, ◌||◌, ◌==◌, ℕ, List, [], ◌∷◌, nat_le, Option, None, Some, if◌then◌else◌, ⊤}
+use Rattle.std.specs.Prelude.{◌≡◌, ◌+◌, ◌||◌, ◌==◌, ℕ, List, nat_le, Option, None, Some, if◌then◌else◌, ⊤}
 use Rattle.std.specs.List.{find}
 use Rattle.lib_base.specs.declared.files.Summary.{Summary}
 use Rattle.file_model.specs.Pcm.{Pcm}
@@ -105,15 +105,3 @@ AnswersBy (keeper_failed verdict) s request reply next =
 pub record Answer (s : State) (request : Asked) (reply : Reply) (next : State) : Type 0 where
   pub way : Way
   pub answers : AnswersBy way s request reply next
-
--- From s, it may answer the requests in order with these replies, and end in last.
-abbrev pub Answers : State → List Asked → List Reply → State → Type 0
-Answers s [] [] last = last ≡ s
-Answers s (request ∷ requests) (reply ∷ replies) last = (next : State) × Answer s request reply next × Answers next requests replies last
-Answers s [] (reply ∷ replies) last = ⊥
-Answers s (request ∷ requests) [] last = ⊥
-
--- how many replies have that status
-abbrev pub count_status : ℕ → List Reply → ℕ
-count_status status [] = 0
-count_status status (reply ∷ replies) = (if reply.status == status then 1 else 0) + count_status status replies

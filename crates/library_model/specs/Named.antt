@@ -1,25 +1,11 @@
--- Names, and the bodies of requests that name something or choose an album (RFC 8259).
-use Rattle.std.specs.Prelude.{◌==◌, ◌&&◌, not, ℕ, Bool, true, false, List, length, codes, nat_le, nat_lt, Option, None, Some, option_map, option_and_then, if◌then◌else◌}
-use Rattle.std.specs.List.{list_all}
+-- The bodies of requests that name something or choose an album (RFC 8259).
+use Rattle.std.specs.Prelude.{◌&&◌, ℕ, Bool, true, false, List, codes, nat_le, nat_lt, Option, None, Some, option_map, option_and_then, if◌then◌else◌}
 use Rattle.std.specs.Str.{is_utf8}
 use Rattle.serde_json.specs.Data.{Data, null, number, object, no_members, member}
 use Rattle.serde_json.specs.Find.{get, as_str, as_u64}
 use Rattle.serde_json.specs.Read.{read}
+use Rattle.library_model.specs.Names.{is_name}
 use Rattle.library_model.specs.State.{numbers_end}
-
--- ---- names
-
--- the greatest length of a name, in bytes
-abbrev pub name_limit : ℕ
-name_limit = 200
-
--- a byte that a name may have: no control of ASCII, so none below 0x20, nor 0x7F
-abbrev pub is_name_byte : ℕ → Bool
-is_name_byte byte = nat_le 0x20 byte && not (byte == 0x7F)
-
--- a name: up to that many bytes of UTF-8 (RFC 3629), each of which it may have
-abbrev pub is_name : List ℕ → Bool
-is_name text = nat_le (length text) name_limit && list_all is_name_byte text && is_utf8 text
 
 -- ---- what bodies say
 

@@ -6,8 +6,11 @@
 //! definitions and code share, and the table of refusals, which both read.
 #![tactic(auto)]
 
+mod bad_rows;
+pub mod limits;
 mod messages;
 mod refusals;
 
+pub use bad_rows::{BadRow, RowRule, RowTable};
 pub use messages::{BodyKind, Command, Question, Reply, Request};
 pub use refusals::Refusal;

@@ -8,6 +8,7 @@ use Rattle.keeper_store.specs.Goes.{Goes}
 use Rattle.keeper_store.specs.declared.contents.Tables.{Tables}
 use Rattle.library_model.specs.declared.messages.Reply.{Reply}
 use Rattle.library_model.specs.Asked.{Asked}
+use Rattle.library_model.specs.Exchanges.{requests_of}
 use Rattle.http_model.specs.Framing.{End, ended, unframeable, RequestsOf, input_limit}
 use Rattle.http_model.specs.declared.refusals.FramingRefusal.TheVariants.{Size}
 use Rattle.http_model.specs.Refusals.{framing_refusal}
@@ -17,7 +18,7 @@ use Rattle.catalogue_core.specs.declared.libraries.BadRow.{BadRow}
 use Rattle.catalogue_core.specs.declared.libraries.Library.{Library}
 use Rattle.catalogue_core.specs.declared.libraries.OpenRefusal.{OpenRefusal}
 use Rattle.catalogue_core.specs.declared.libraries.OpenRefusal.TheVariants as refusal
-use Rattle.catalogue_core.specs.Kept.{kept_tables, Keeps}
+use Rattle.catalogue_core.specs.Kept.{Holds, Keeps}
 use Rattle.catalogue_core.specs.Opening.{OpensOver, first_bad}
 use Rattle.library_http.specs.declared.serving.How.{How}
 use Rattle.library_http.specs.declared.serving.How.TheVariants as ending
@@ -29,7 +30,7 @@ use Rattle.report_cli.specs.Statuses.{code, status_of}
 use Rattle.report_cli.specs.Running.{Seen, Course, not_a_command, not_opened, served, Runs, Prints, IsCommand, IsBrokenOff, IsFixed, IsComplete, status_at, usage_line, bad_row_line}
 
 -- a library of no row keeps the empty state
-pub keeps_empty : (library : Library) → kept_tables library ≡ empty_tables → Keeps library empty_state
+pub keeps_empty : (library : Library) → Holds library empty_tables → Keeps library empty_state
 keeps_empty library h = record {
   valid = record {
     albums = (omega arith, omega arith);
@@ -43,12 +44,6 @@ keeps_empty library h = record {
   };
   rows = h;
 }
-
--- an empty library was opened over empty tables
-pub opened_empty : (told : Option Tables) (library : Library) → kept_tables library ≡ empty_tables
-    → IfSome told (λ t. OpensOver t (Ok library)) → IfSome told (λ t. t ≡ empty_tables)
-opened_empty None library empty opens = tt
-opened_empty (Some t) library empty opens = sym opens.1 ∙ empty
 
 -- what is told stays
 pub tables_stay : (told : Option Tables) → Goes (λ old new. new ≡ old) told told
@@ -130,15 +125,15 @@ session_end : (how : How) (answered : ℕ) (input : List ℕ) (source0 source1 :
 session_end ending.Ended answered input source0 source1 sink0 sink1 w0 w1 told session source sink =
     let took = subst (λ (l : Option (List ℕ)). Consumes l source1.left session.0) told session.1 in
     inr (
-      session.5.requests,
+      (requests_of session.3),
       ended,
-      subst (λ (b : List ℕ). RequestsOf b session.5.requests ended)
+      subst (λ (b : List ℕ). RequestsOf b (requests_of session.3) ended)
           (taken_whole input source1.left session.0 took session.2) session.5.reads,
       refl,
     )
 session_end ending.Unframeable answered input source0 source1 sink0 sink1 w0 w1 told session source sink =
     let took = subst (λ (l : Option (List ℕ)). Consumes l source1.left session.0) told session.1 in
-    let end = unframeable_end input source1.left session.0 session.7.requests session.4 took session.3 session.7.reads in
+    let end = unframeable_end input source1.left session.0 (requests_of session.5) session.4 took session.3 session.7.reads in
     inr (end.0, unframeable end.1, end.2, refl)
 session_end ending.SourceFault answered input source0 source1 sink0 sink1 w0 w1 told session source sink = absurd (source refl)
 session_end ending.SinkFault answered input source0 source1 sink0 sink1 w0 w1 told session source sink = absurd (sink refl)

@@ -15,7 +15,7 @@ use Rattle.library_model.specs.State.{empty_state}
 use Rattle.catalogue_core.specs.declared.libraries.Library.{Library}
 use Rattle.catalogue_core.specs.declared.libraries.OpenRefusal.{OpenRefusal}
 use Rattle.catalogue_core.specs.declared.libraries.OpenRefusal.TheVariants as refusal
-use Rattle.catalogue_core.specs.Kept.{kept_tables}
+use Rattle.catalogue_core.specs.Kept.{Holds}
 use Rattle.catalogue_core.specs.Opening.{first_bad}
 use Rattle.library_http.specs.declared.serving.How.{How}
 use Rattle.library_http.specs.Sessions.{Session}
@@ -84,7 +84,7 @@ pub record Served (how : How) (answered : ℕ) (before now : Seen) : Type 0 wher
   pub opens : Leaves before opened
   pub unwritten : opened.sink ≡ before.sink
   pub library : Library
-  pub keeps : kept_tables library ≡ empty_tables
+  pub keeps : Holds library empty_tables
   pub ran : SessionRan library how answered opened now
 
 -- how far a run comes

@@ -3,7 +3,7 @@ ghost use Rattle.std.specs.Prelude.{◌≡◌, ◌≢◌, ◌≤◌, ◌↔◌, 
 ghost use Rattle.lib_base.specs.Faults.{CountsFault};
 ghost use Rattle.catalogue_core.specs.Opening.{first_bad};
 ghost use Rattle.keeper_store.specs.Changes.{empty_tables};
-ghost use Rattle.catalogue_core.specs.Kept.{kept_tables};
+ghost use Rattle.catalogue_core.specs.Kept.{Holds};
 ghost use Rattle.report_cli.specs.Running.{seen, IsCommand, usage_line, bad_row_line, Prints, Course, Runs, SessionRan, Causes};
 ghost use Rattle.report_cli.specs.Statuses.{code, status_of};
 ghost use Rattle.library_http.specs.declared.serving.How.{How};
@@ -102,7 +102,7 @@ fn serve<R: Threads + Sync, S: Source, K: Sink, D: Keeper, V: Vault>(
     keeper: &mut D,
     vault: &mut V,
 ) -> Status
-    ensures serves { kept_tables library ≡ empty_tables → (how : How) × (answered : ℕ) × SessionRan library how answered
+    ensures serves { Holds library empty_tables → (how : How) × (answered : ℕ) × SessionRan library how answered
         (seen (S.shown source.old) (K.shown sink.old) (D.shown keeper.old) (V.shown vault.old))
         (seen (S.shown source.new) (K.shown sink.new) (D.shown keeper.new) (V.shown vault.new))
         × (result ≡ status_of how) }

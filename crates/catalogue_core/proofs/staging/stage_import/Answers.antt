@@ -1,4 +1,5 @@
 use Rattle.std.proofs.lemmas.Result.{IfOk-weaker}
+use Rattle.keeper_store.specs.Changes.{next_numbers}
 use Rattle.catalogue_core.specs.Imports.{StagesAccepted}
 use Rattle.catalogue_core.specs.Staging.{StagedFrom}
 use Rattle.library_model.specs.declared.messages.Command.TheVariants.{Import}
@@ -14,9 +15,9 @@ returns-in-Broken-clause-staged g c = λ s keeps.
 pub returns-clause-staged : goal.returns-clause-staged
 returns-clause-staged g c = λ s keeps.
     let found = rw (c.as_slice.ensures, c.in-Accepted.is) at c.in_ok-fault.ensures in
-    let stages = rw (c.as_slice-in-Accepted.ensures, keeps.rows) at c.stage_accepted.ensures.accepted in
+    let stages = rw (c.as_slice-in-Accepted.ensures, keeps.rows.numbers) at c.stage_accepted.ensures.accepted in
     let before = (g.V.Vault.shown c.args.vault.now).faults in
     let now = (g.V.Vault.shown c.stage_accepted.new.vault).faults in
-    IfOk-weaker c.stage_accepted.result (StagesAccepted (tables_of s) c.args.file c.in-Accepted.measured c.in-Accepted.summary before now)
+    IfOk-weaker c.stage_accepted.result (StagesAccepted (next_numbers (tables_of s)) c.args.file c.in-Accepted.measured c.in-Accepted.summary before now)
     (StagedFrom s (record { command = Import c.args.file }) before now)
     (λ staged h. StagedFrom-accepted s c.args.file found.0 c.in-Accepted.measured c.in-Accepted.summary before now staged keeps.valid found.1 found.2 h) stages

@@ -1,14 +1,13 @@
 use Rattle.std.proofs.Common.{length, drop, ap, arith, length-drop}
 use Rattle.library_http.specs.World.{world}
-use Rattle.library_http.proofs.ServingLemmas.{Progress-none, Progress-turn, Progress-Stops}
+use Rattle.library_http.proofs.ServingLemmas.{Progress-none, Progress-keeps, Progress-turn, Progress-Stops}
 use Rattle.library_http.proofs.serving.serve.Goals as goal
 
 pub requests-init : goal.requests-init
 requests-init g c = (
   omega arith,
   λ start keeps. Progress-none start c.args.input.now (g.K.Sink.shown c.args.sink.now)
-      (world c.args.library.now (g.D.Keeper.shown c.args.keeper.now) (g.V.Vault.shown c.args.vault.now))
-      keeps,
+      (world c.args.library.now (g.D.Keeper.shown c.args.keeper.now) (g.V.Vault.shown c.args.vault.now)),
   omega arith,
   record { of_keeper = omega arith; of_vault = omega arith },
 )
@@ -34,7 +33,7 @@ requests-preserved g c =
           (world c.args.library.now (g.D.Keeper.shown c.args.keeper.now) (g.V.Vault.shown c.args.vault.now))
           (world c.requests.library (g.D.Keeper.shown c.requests.keeper) (g.V.Vault.shown c.requests.vault))
           (world c.serve_next.new.library (g.D.Keeper.shown c.serve_next.new.keeper) (g.V.Vault.shown c.serve_next.new.vault))
-          progress (c.in-Answered.ensures.turns progress.serves.state progress.serves.leads.keeps)),
+          progress (c.in-Answered.ensures.turns progress.serves.state (Progress-keeps start _ _ _ _ _ _ _ keeps progress))),
       omega (arith, c.requests.invariant.2, c.in-Answered.ensures.sink.later),
       record {
         of_keeper = omega (arith, c.requests.invariant.3.of_keeper, c.in-Answered.ensures.later.of_keeper);
@@ -49,4 +48,4 @@ returns-in-Stopped-clause-stops g c = λ start keeps.
     (world c.args.library.now (g.D.Keeper.shown c.args.keeper.now) (g.V.Vault.shown c.args.vault.now))
     (world c.requests.library (g.D.Keeper.shown c.requests.keeper) (g.V.Vault.shown c.requests.vault))
     (world c.serve_next.new.library (g.D.Keeper.shown c.serve_next.new.keeper) (g.V.Vault.shown c.serve_next.new.vault))
-    c.requires.short progress (c.in-Stopped.ensures.turns progress.serves.state progress.serves.leads.keeps)
+    keeps c.requires.short progress (c.in-Stopped.ensures.turns progress.serves.state (Progress-keeps start _ _ _ _ _ _ _ keeps progress))

@@ -34,4 +34,4 @@ returns-clause-session g c = λ start keeps.
     Session-after start c.serve-served.result.stop c.in-Ok.taken.end c.end_after.result c.serve-served.result.answered
     (g.S.Source.shown c.args.source.now) (g.S.Source.shown c.read_up_to.new.source)
     (g.K.Sink.shown c.args.sink.now) (g.K.Sink.shown c.serve-served.new.sink) (g.K.Sink.shown c.end_after.new.sink)
-    c.in-Ok.taken.bytes w0 w1 short c.in-Ok.ensures.takes.content c.in-Ok.ensures.takes.at_end whole stops c.end_after.ensures.ends
+    c.in-Ok.taken.bytes w0 w1 short c.in-Ok.ensures.takes.content c.in-Ok.ensures.takes.at_end c.in-Ok.ensures.takes.faults.cause whole stops c.end_after.ensures.ends

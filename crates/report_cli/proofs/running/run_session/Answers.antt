@@ -2,7 +2,7 @@ use Rattle.std.proofs.Common.{refl, ap}
 use Rattle.catalogue_core.specs.declared.libraries.OpenRefusal.TheVariants as refusal
 use Rattle.report_cli.specs.Running.{seen, not_opened, served}
 use Rattle.report_cli.specs.Statuses.{code}
-use Rattle.report_cli.proofs.RunLemmas.{opened_empty, bad_opened}
+use Rattle.report_cli.proofs.RunLemmas.{bad_opened}
 use Rattle.report_cli.proofs.running.run_session.Goals as goal
 
 pub returns-in-Ok-clause-runs : goal.returns-in-Ok-clause-runs
@@ -12,7 +12,7 @@ returns-in-Ok-clause-runs g c = λ words is.
       (
         is,
         record {
-          empty = opened_empty _ c.in-Ok.library c.in-Ok.ensures.begins c.in-Ok.ensures.opens;
+          empty = c.in-Ok.ensures.empty;
           opened = seen (g.S.Source.shown c.args.source.now) (g.K.Sink.shown c.args.sink.now) (g.D.Keeper.shown c.open.new.keeper)
               (g.V.Vault.shown c.args.vault.now);
           opens = record {

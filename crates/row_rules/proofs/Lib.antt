@@ -1,0 +1,3 @@
+pub mod EnergyTests
+pub mod Trying
+pub mod Walking

@@ -1,0 +1,3 @@
+pub mod Beside
+pub use Rattle.library_model.specs.Names
+pub use Rattle.library_model.specs.RowRules
