@@ -1,6 +1,5 @@
 -- What staging answers is what the machine decides.
-use Rattle.std.proofs.Common.{◌≡◌, ◌≢◌, ◌<◌, ◌||◌, ℕ, Bool, true, false, nat_le, List, refl, sym, subst, ap, ◌∙◌, arith, if◌then◌else◌, inl, inr}
-use Rattle.std.proofs.lemmas.Bool.Decides.{nat_tests}
+use Rattle.std.proofs.Common.{◌≡◌, ◌≢◌, ℕ, Bool, true, false, List, refl, sym, subst, ap, ◌∙◌, arith, if◌then◌else◌, inl, inr}
 use Rattle.lib_base.specs.declared.outcomes.Rule.{Rule}
 use Rattle.lib_base.specs.Faults.{Rose}
 use Rattle.lib_base.specs.declared.files.Measured.{Measured}
@@ -16,9 +15,9 @@ use Rattle.library_model.specs.Machine.{recording_reply, new_recording, imported
 use Rattle.library_model.specs.Replies.{format_refusal, refusal}
 use Rattle.library_model.specs.declared.refusals.Refusal.TheVariants.{Format, Ids, Vault, Keeper, Memory}
 use Rattle.library_model.specs.Refusals.{status_of}
-use Rattle.library_model.specs.Stands.{tables_of}
-use Rattle.library_model.specs.State.{State, IsValid, numbers_end}
-use Rattle.library_model.proofs.Imports.{imported-IsValid, tables_of-imported, HoldsFiles-imported}
+use Rattle.library_model.specs.Stands.{IsValid, tables_of}
+use Rattle.library_model.specs.State.{State}
+use Rattle.library_model.proofs.Imports.{tables_of-imported}
 use Rattle.catalogue_core.specs.declared.prepared.Prepared.{Prepared}
 use Rattle.catalogue_core.specs.declared.prepared.Staged.{Staged}
 use Rattle.catalogue_core.specs.declared.prepared.Staged.TheVariants.{Refused, Ready}
@@ -56,10 +55,6 @@ import_verdict-lacks : (s : State) (file : List ℕ) (sound : Pcm) (summary : Su
 import_verdict-lacks s file sound summary lacks h =
     ap (λ b. if b then stays (refusal Ids) else accepts (recording_reply 201 (new_recording s file sound summary)) (imported s file sound summary)) h
 
--- both numbers are left where none is lacking
-below_end : (a b end : ℕ) → (nat_le end a || nat_le end b) ≡ false → (a < end) × (b < end)
-below_end a b end h = (grind (arith, nat_tests), grind (arith, nat_tests))
-
 -- the import is refused for want of a number
 RefusesBy-ids : (s : State) (file : List ℕ) (sound : Pcm) (summary : Summary) (reply : Reply) (before now : ℕ) → Finds file (measured sound summary)
     → lacks_numbers (next_numbers (tables_of s)) ≡ true → reply ≡ refusal Ids → RefusesBy s (import_of file) reply before now
@@ -95,7 +90,6 @@ Prepares-import : (s : State) (file : List ℕ) (sound : Pcm) (summary : Summary
     → Finds file (measured sound summary) → lacks_numbers (next_numbers (tables_of s)) ≡ false
     → PreparesImport (next_numbers (tables_of s)) file (measured_of sound) summary p → Prepares s (import_of file) p
 Prepares-import s file sound summary p valid finds lacks prepares =
-    let left = below_end s.next_recording s.next_take numbers_end lacks in
     let reply : p.reply ≡ recording_reply 201 (new_recording s file sound summary) = prepares.reply in
     record {
       next = imported s file sound summary;
@@ -104,9 +98,7 @@ Prepares-import s file sound summary p valid finds lacks prepares =
         finds,
         ap (λ r. accepts r (imported s file sound summary)) reply ∙ sym (import_verdict-lacks s file sound summary false lacks),
       );
-      valid = imported-IsValid s file sound summary valid left.0 left.1 finds;
       rows = rw prepares.changes (sym (tables_of-imported s file sound summary valid));
-      files = λ old new held others put. HoldsFiles-imported s file sound summary old new valid held others put;
       granted = ap (λ (r : Reply). r.status) reply;
     }
 

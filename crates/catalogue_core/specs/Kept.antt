@@ -3,8 +3,8 @@ use Rattle.std.specs.Prelude.{ℕ}
 use Rattle.catalogue_rows.specs.Holding as rows
 use Rattle.keeper_store.specs.declared.contents.NextNumbers.{NextNumbers}
 use Rattle.keeper_store.specs.declared.contents.Tables.{Tables}
-use Rattle.library_model.specs.State.{State, IsValid}
-use Rattle.library_model.specs.Stands.{tables_of}
+use Rattle.library_model.specs.State.{State}
+use Rattle.library_model.specs.Stands.{IsValid, tables_of}
 use Rattle.catalogue_core.specs.declared.libraries.Library.{Library}
 
 -- the numbers that come next

@@ -26,7 +26,7 @@ first_bad t = if has_first_counters t && has_no_row t then None else Some (recor
 -- what opening over these tables may answer: the library of them, or their first bad row
 abbrev pub OpensOver : Tables → Result Library OpenRefusal → Type 0
 OpensOver t (Ok library) = (first_bad t ≡ None) × Holds library t
-OpensOver t (Err (refusal.BadRow row)) = first_bad t ≡ Some row
+OpensOver t (Err (refusal.BadRow table id rule)) = first_bad t ≡ Some (record { table = table; id = id; rule = rule })
 OpensOver t (Err refusal.KeeperFault) = ⊤
 OpensOver t (Err refusal.Memory) = ⊤
 

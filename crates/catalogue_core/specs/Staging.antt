@@ -1,22 +1,21 @@
 -- What staging a request answers.
-use Rattle.std.specs.Prelude.{◌≡◌, ◌≢◌, ◌≤◌, ℕ, Some, Result, Ok, Err, ⊤}
+use Rattle.std.specs.Prelude.{◌≡◌, ◌≢◌, ◌≤◌, ℕ, Result, Ok, Err, ⊤}
 use Rattle.lib_base.specs.declared.outcomes.Memory.{Memory}
 use Rattle.lib_base.specs.Faults.{Rose}
-use Rattle.keeper_store.specs.Blobs.{Blobs, OthersKept}
+use Rattle.keeper_store.specs.Blobs.{OthersKept}
 use Rattle.keeper_store.specs.Changes.{changed_all}
 use Rattle.keeper_store.specs.Goes.{Goes, RoseByOneAtMost}
 use Rattle.keeper_store.specs.Vaults.{VaultView}
 use Rattle.keeper_store.specs.declared.contents.Tables.{Tables}
 use Rattle.library_model.specs.declared.messages.Command.{Command}
-use Rattle.library_model.specs.declared.messages.Command.TheVariants.{Import}
 use Rattle.library_model.specs.declared.messages.Request.{Request}
 use Rattle.library_model.specs.declared.messages.Reply.{Reply}
 use Rattle.library_model.specs.declared.refusals.Refusal.TheVariants as cause
 use Rattle.library_model.specs.Asked.{change}
 use Rattle.library_model.specs.Refusals.{status_of}
-use Rattle.library_model.specs.State.{State, IsValid}
+use Rattle.library_model.specs.State.{State}
 use Rattle.library_model.specs.Machine.{Decides, accepts, Answer}
-use Rattle.library_model.specs.Stands.{tables_of, HoldsFiles}
+use Rattle.library_model.specs.Stands.{tables_of, HoldsFileOf}
 use Rattle.catalogue_core.specs.Committing.{Fits}
 use Rattle.catalogue_core.specs.Kept.{Holds, numbers_of}
 use Rattle.catalogue_core.specs.declared.libraries.Library.{Library}
@@ -24,19 +23,12 @@ use Rattle.catalogue_core.specs.declared.prepared.Prepared.{Prepared}
 use Rattle.catalogue_core.specs.declared.prepared.Staged.{Staged}
 use Rattle.catalogue_core.specs.declared.prepared.Staged.TheVariants.{Refused, Ready}
 
--- the key holds the file of the request
-abbrev pub HoldsFileOf : Command → ℕ → Blobs → Type 0
-HoldsFileOf (Import file) key blobs = blobs key ≡ Some file
-
--- The prepared change is that of the request, which is accepted: its batch leads to the tables of the next state, and
--- with its file put, the vault holds the files of that state. Its reply is a 201.
+-- The prepared change is that of the request, which is accepted: its batch leads to the tables of the next state. Its reply
+-- is a 201.
 pub record Prepares (s : State) (request : Request) (p : Prepared) : Type 0 where
   pub next : State
   pub decides : Decides s (change request) (accepts p.reply next)
-  pub valid : IsValid next
   pub rows : changed_all p.batch.changes (tables_of s) ≡ tables_of next
-  pub files : (old new : Blobs) → HoldsFiles old s.recordings → OthersKept s.next_take old new
-      → HoldsFileOf request.command s.next_take new → HoldsFiles new next.recordings
   pub granted : p.reply.status ≡ 201
 
 -- A refusal answers the request, with no change: `Vault` only where the vault's count rose, never `Keeper` or `Memory`.

@@ -22,5 +22,6 @@ mod tests;
 pub use asking::ask;
 pub use committing::commit;
 pub use libraries::{BadRow, Library, OpenRefusal};
+pub use library_model::{BodyKind, Command, Question, Reply, Request};
 pub use prepared::{Prepared, Staged};
 pub use staging::stage;

@@ -19,8 +19,8 @@ pub struct BadRow {
 pub enum OpenRefusal {
     /// A fault, which the keeper has counted.
     KeeperFault,
-    /// The first row that breaks a rule.
-    BadRow(BadRow),
+    /// The first row that breaks a rule, as `BadRow` numbers it.
+    BadRow { table: u8, id: u64, rule: u8 },
     /// Want of memory.
     Memory,
 }
@@ -45,7 +45,7 @@ impl Library {
             Err(Outside::Memory) => return Err(OpenRefusal::Memory),
         };
         match bad_row(&tables) {
-            Some(row) => Err(OpenRefusal::BadRow(row)),
+            Some(BadRow { table, id, rule }) => Err(OpenRefusal::BadRow { table, id, rule }),
             None => Ok(library_of(alloc, tables)),
         }
     }

@@ -2,7 +2,7 @@
 ghost use Rattle.std.specs.Prelude.{◌≡◌, ◌≤◌, ◌<◌};
 ghost use Rattle.measure_pool.specs.declared.plans.TheConstants.{MOST_WORKERS};
 
-use crate::{BadRow, Library, OpenRefusal, Staged, ask, commit, stage};
+use crate::{Library, OpenRefusal, Staged, ask, commit, stage};
 use keeper_store::{Keeper, MemKeeper, MemVault, Tables, Vault};
 use lib_base::{Bytes, Memory, Steps};
 use library_model::{Command, Question, Reply, Request};
@@ -75,14 +75,14 @@ fn import_by<R: Threads + Sync, G: Gate, L: Ledger>(
 #[test]
 fn a_library_opens_over_empty_tables_alone(rt: HostRuntime) -> Result<(), Fail> {
     let alloc = rt.alloc();
-    let first = BadRow {
+    let first = OpenRefusal::BadRow {
         table: 1,
         id: 1,
         rule: 0,
     };
     for (next_album, failing, want) in [
         (1, 2, None),
-        (2, 2, Some(OpenRefusal::BadRow(first))),
+        (2, 2, Some(first)),
         (1, 1, Some(OpenRefusal::KeeperFault)),
     ] {
         let mut tables = Tables::empty(alloc);

@@ -22,15 +22,16 @@ use Rattle.library_model.specs.Machine.{Answer, AnswersBy, Way, accepts, stays, 
 use Rattle.library_model.specs.Exchanges.{exchange, counted}
 use Rattle.library_model.specs.Refusals.{status_of}
 use Rattle.library_model.specs.Replies.{refusal}
-use Rattle.library_model.specs.Stands.{tables_of}
+use Rattle.library_model.specs.Stands.{HoldsFileOf, tables_of}
 use Rattle.library_model.specs.State.{Recording, State}
+use Rattle.library_model.proofs.Accepting.{accepted-IsValid, accepted-HoldsFiles}
 use Rattle.library_model.proofs.Imports.{HoldsFiles-kept}
 use Rattle.catalogue_core.specs.Committing.{Commits, IsMade, IsLeft, HoldsAgain}
 use Rattle.catalogue_core.specs.declared.libraries.Library.{Library}
 use Rattle.catalogue_core.specs.declared.prepared.Prepared.{Prepared}
 use Rattle.catalogue_core.specs.declared.prepared.Staged.{Staged}
 use Rattle.catalogue_core.specs.Kept.{Holds, Keeps, numbers_of}
-use Rattle.catalogue_core.specs.Staging.{Prepares, RefusesBy, HoldsFileOf, Stages}
+use Rattle.catalogue_core.specs.Staging.{Prepares, RefusesBy, Stages}
 use Rattle.library_http.specs.Sessions.{Acts, Counts, Leads, IsSettled, reply_given}
 use Rattle.library_http.specs.World.{World, world, RoseBy}
 use Rattle.library_http.proofs.Goings.{Goes-same, Goes-weaker}
@@ -214,11 +215,15 @@ Acts-made s request p reply r lib0 lib1 lib2 keeper0 keeper2 vault0 vault2 keeps
     Acts-of s (change request) reply prepares.next _ _
     (record { way = as_decided (accepts p.reply prepares.next); answers = (prepares.decides, is, refl) })
     (record {
-      keeps = record { valid = prepares.valid; rows = rows };
+      keeps = record {
+        valid = accepted-IsValid s (change request) p.reply prepares.next keeps.valid prepares.decides;
+        rows = rows;
+      };
       rows = Goes-weaker _ _ (λ old new changed_is old_is. changed_is ∙ ap (changed_all p.batch.changes) old_is ∙ prepares.rows)
           keeper0.tables keeper2.tables made.tables;
       files = Goes-weaker _ _
-          (λ old new both held. prepares.files old new held (rw take at both.0) (rw take at both.1))
+          (λ old new both held. accepted-HoldsFiles s request p.reply prepares.next old new keeps.valid prepares.decides held (rw take at both.0)
+          (rw take at both.1))
           vault0.blobs vault2.blobs (Goes-both _ _ vault0.blobs vault2.blobs stages.others put);
     })
     (Counts-neither (change request) reply _ _ (differs_from _ 201 (status_of cause.Vault) status (omega arith)) (differs_from _ 201 (status_of cause.Keeper) status (omega arith)) stages.later commits.later)

@@ -1,6 +1,5 @@
 -- What an import does to the state, to the tables and to the files that blobs hold.
-use Rattle.std.proofs.Common.{◌≡◌, ℕ, ◌+◌, ◌<◌, ◌≤◌, ◌≢◌, Bool, true, Some, List, [], ◌∷◌, ◌++◌, map, refl, sym, ap, ◌∙◌, subst, arith, lt-ltb}
-use Rattle.std.proofs.lemmas.List.{map-append}
+use Rattle.std.proofs.Common.{◌≡◌, ℕ, ◌+◌, ◌<◌, Bool, true, Some, List, [], ◌∷◌, ◌++◌, map, refl, sym, ap, ◌∙◌, subst, arith, lt-ltb}
 use Rattle.std.specs.List.{AllByRecursion}
 use Rattle.lib_base.specs.declared.files.Summary.{Summary}
 use Rattle.file_model.specs.Pcm.{Pcm}
@@ -12,19 +11,15 @@ use Rattle.keeper_store.specs.declared.contents.Change.TheVariants.{Counters, Pu
 use Rattle.keeper_store.specs.declared.contents.Tables.{Tables}
 use Rattle.keeper_store.specs.declared.row_types.RecordingRow.{RecordingRow}
 use Rattle.keeper_store.specs.declared.row_types.SegmentRow.{SegmentRow}
-use Rattle.keeper_store.proofs.Putting.{map-put}
+use Rattle.keeper_store.proofs.Putting.{map-put, AllByRecursion-put}
 use Rattle.library_model.specs.Machine.{imported, new_recording}
 use Rattle.std.specs.Prelude.{fold}
-use Rattle.library_model.specs.Stands.{HoldsFiles, recording_row, segment_row, segment_rows, tables_of}
-use Rattle.library_model.specs.State.{Recording, State, IsValid, IsGiven, Ascend, Differ, empty_state, numbers_end, recording_before}
+use Rattle.library_model.specs.Stands.{IsValid, HoldsFiles, recording_row, segment_row, segment_rows, tables_of}
+use Rattle.library_model.specs.InOrder.{AreInOrder, IsGiven}
+use Rattle.library_model.specs.State.{Recording, State, empty_state, numbers_end, recording_before}
+use Rattle.library_model.proofs.InOrderLemmas.{AllByRecursion-unmap, AreInOrder-import, empty-AreInOrder}
 
 -- ---- lists of which each element has a property
-
--- One more element that has the property.
-pub AllByRecursion-push : {A : Type 0} (P : A → Type 0) (xs : List A) (x : A)
-    → AllByRecursion P xs → P x → AllByRecursion P (xs ++ x ∷ [])
-AllByRecursion-push P [] x all here = (here, tt)
-AllByRecursion-push P (y ∷ xs) x all here = (all.0, AllByRecursion-push P xs x all.1 here)
 
 -- What follows from the property holds of each element too.
 pub AllByRecursion-weaker : {A : Type 0} (P Q : A → Type 0) (xs : List A)
@@ -39,12 +34,6 @@ AllByRecursion-both P Q R [] joined all other = tt
 AllByRecursion-both P Q R (x ∷ xs) joined all other =
     (joined x all.0 other.0, AllByRecursion-both P Q R xs joined all.1 other.1)
 
--- The images have the property where each element's image has it.
-pub AllByRecursion-map : {A B : Type 0} (P : B → Type 0) (f : A → B) (xs : List A)
-    → AllByRecursion (λ x. P (f x)) xs → AllByRecursion P (map f xs)
-AllByRecursion-map P f [] all = tt
-AllByRecursion-map P f (x ∷ xs) all = (all.0, AllByRecursion-map P f xs all.1)
-
 -- ---- rows put in their place
 
 -- A row above all others comes last.
@@ -55,73 +44,23 @@ put-last less row (r ∷ rows) all = rw all.0 (ap (λ l. r ∷ l) (put-last less
 
 -- ---- one more recording
 
--- Ids ascend where a greater one comes last.
-pub Ascend-push : (rs : List Recording) (r : Recording) → Ascend rs
-    → AllByRecursion (λ (earlier : Recording). earlier.id < r.id) rs → Ascend (rs ++ r ∷ [])
-Ascend-push [] r ascend above = (tt, tt)
-Ascend-push (first ∷ rs) r ascend above = (
-  AllByRecursion-push (λ (later : Recording). first.id < later.id) rs r ascend.0 above.0,
-  Ascend-push rs r ascend.1 above.1,
+-- In a valid state ids and takes were given by their counters.
+pub given_of : (s : State) → IsValid s
+    → AllByRecursion (λ (r : Recording). IsGiven s.next_recording r.id) s.recordings
+    × AllByRecursion (λ (r : Recording). IsGiven s.next_take r.take) s.recordings
+given_of s valid = (
+  AllByRecursion-unmap (λ (row : RecordingRow). IsGiven s.next_recording row.id) recording_row s.recordings valid.rows.ids_given,
+  AllByRecursion-unmap (λ (row : RecordingRow). IsGiven s.next_take row.take) recording_row s.recordings valid.rows.takes_given,
 )
 
--- Numbers differ where another one comes last.
-pub Differ-push : (ns : List ℕ) (n : ℕ) → Differ ns → AllByRecursion (λ (earlier : ℕ). n ≢ earlier) ns
-    → Differ (ns ++ n ∷ [])
-Differ-push [] n differ other = (tt, tt)
-Differ-push (first ∷ ns) n differ other = (
-  AllByRecursion-push (λ (later : ℕ). later ≢ first) ns n differ.0 other.0,
-  Differ-push ns n differ.1 other.1,
-)
-
--- In a valid state an import's recording comes last.
+-- There an import's recording comes last.
 pub recordings-imported : (s : State) (file : List ℕ) (sound : Pcm) (summary : Summary) → IsValid s
     → (imported s file sound summary).recordings ≡ s.recordings ++ new_recording s file sound summary ∷ []
 recordings-imported s file sound summary valid =
     put-last recording_before (new_recording s file sound summary) s.recordings
     (AllByRecursion-weaker (λ (r : Recording). IsGiven s.next_recording r.id)
     (λ (r : Recording). recording_before r (new_recording s file sound summary) ≡ true) s.recordings
-    (λ r given. lt-ltb r.id s.next_recording given.1) valid.ids_given)
-
--- An import of a wave under numbers that are left keeps a state valid.
-pub imported-IsValid : (s : State) (file : List ℕ) (sound : Pcm) (summary : Summary) → IsValid s
-    → s.next_recording < numbers_end → s.next_take < numbers_end → Finds file (measured sound summary)
-    → IsValid (imported s file sound summary)
-imported-IsValid s file sound summary valid ids takes reads =
-    let new : Recording = new_recording s file sound summary in
-    let last : s.recordings ++ new ∷ [] ≡ (imported s file sound summary).recordings =
-    sym (recordings-imported s file sound summary valid) in
-    let low_id : 1 ≤ s.next_recording = valid.recordings.0 in
-    let low_take : 1 ≤ s.next_take = valid.takes.0 in
-    record {
-      albums = valid.albums;
-      recordings = (omega arith, omega arith);
-      takes = (omega arith, omega arith);
-      ascend = subst Ascend last
-          (Ascend-push s.recordings new valid.ascend
-          (AllByRecursion-weaker (λ (r : Recording). IsGiven s.next_recording r.id)
-          (λ (r : Recording). r.id < s.next_recording) s.recordings (λ r given. given.1) valid.ids_given));
-      ids_given = subst (AllByRecursion (λ (r : Recording). IsGiven (s.next_recording + 1) r.id)) last
-          (AllByRecursion-push (λ (r : Recording). IsGiven (s.next_recording + 1) r.id) s.recordings new
-          (AllByRecursion-weaker (λ (r : Recording). IsGiven s.next_recording r.id)
-          (λ (r : Recording). IsGiven (s.next_recording + 1) r.id) s.recordings
-          (λ r given. (given.0, omega (arith, given.1))) valid.ids_given)
-          (low_id, omega arith));
-      takes_given = subst (AllByRecursion (λ (r : Recording). IsGiven (s.next_take + 1) r.take)) last
-          (AllByRecursion-push (λ (r : Recording). IsGiven (s.next_take + 1) r.take) s.recordings new
-          (AllByRecursion-weaker (λ (r : Recording). IsGiven s.next_take r.take)
-          (λ (r : Recording). IsGiven (s.next_take + 1) r.take) s.recordings
-          (λ r given. (given.0, omega (arith, given.1))) valid.takes_given)
-          (low_take, omega arith));
-      takes_differ = subst (λ (rs : List Recording). Differ (map (λ (r : Recording). r.take) rs)) last
-          (subst Differ (sym (map-append (λ (r : Recording). r.take) s.recordings (new ∷ [])))
-          (Differ-push (map (λ (r : Recording). r.take) s.recordings) s.next_take valid.takes_differ
-          (AllByRecursion-map (λ (n : ℕ). s.next_take ≢ n) (λ (r : Recording). r.take) s.recordings
-          (AllByRecursion-weaker (λ (r : Recording). IsGiven s.next_take r.take)
-          (λ (r : Recording). s.next_take ≢ r.take) s.recordings
-          (λ r given same. omega (arith, given.1, same)) valid.takes_given))));
-      files = subst (AllByRecursion (λ (r : Recording). Finds r.file (measured r.sound r.summary))) last
-          (AllByRecursion-push (λ (r : Recording). Finds r.file (measured r.sound r.summary)) s.recordings new valid.files reads);
-    }
+    (λ r given. lt-ltb r.id s.next_recording given.1) (given_of s valid).0)
 
 -- One recording more puts the row of its segments in its place.
 segment_rows-push : (rows : List SegmentRow) (rs : List Recording) (r : Recording)
@@ -151,37 +90,40 @@ tables_of-imported s file sound summary valid =
     ∙ ap (with_rows (put recording_less (recording_row new) (map recording_row s.recordings)))
     (ap segment_rows (recordings-imported s file sound summary valid) ∙ segment_rows-push [] s.recordings new)
 
+-- An import of a wave under numbers that are left keeps a state valid.
+pub imported-IsValid : (s : State) (file : List ℕ) (sound : Pcm) (summary : Summary) → IsValid s
+    → s.next_recording < numbers_end → s.next_take < numbers_end → Finds file (measured sound summary)
+    → IsValid (imported s file sound summary)
+imported-IsValid s file sound summary valid ids takes reads =
+    let new : Recording = new_recording s file sound summary in
+    record {
+      rows = subst AreInOrder (sym (tables_of-imported s file sound summary valid))
+          (AreInOrder-import (tables_of s) (recording_row new) (segment_row new) valid.rows ids takes refl refl refl);
+      files = AllByRecursion-put (λ (r : Recording). Finds r.file (measured r.sound r.summary)) recording_before new s.recordings
+          reads valid.files;
+    }
+
 -- Blobs that hold another file under the next take hold the files of the state.
 pub HoldsFiles-kept : (s : State) (old new : Blobs) → IsValid s → HoldsFiles old s.recordings
     → OthersKept s.next_take old new → HoldsFiles new s.recordings
 HoldsFiles-kept s old new valid holds kept =
     AllByRecursion-both (λ (r : Recording). old r.take ≡ Some r.file) (λ (r : Recording). IsGiven s.next_take r.take)
     (λ (r : Recording). new r.take ≡ Some r.file) s.recordings
-    (λ r held given. kept r.take (λ same. omega (arith, given.1, same)) ∙ held) holds valid.takes_given
+    (λ r held given. kept r.take (λ same. omega (arith, given.1, same)) ∙ held) holds (given_of s valid).1
 
 -- Blobs that hold the new file under the next take hold the files of the state after the import.
 pub HoldsFiles-imported : (s : State) (file : List ℕ) (sound : Pcm) (summary : Summary) (old new : Blobs) → IsValid s
     → HoldsFiles old s.recordings → OthersKept s.next_take old new → new s.next_take ≡ Some file
     → HoldsFiles new (imported s file sound summary).recordings
 HoldsFiles-imported s file sound summary old new valid holds kept put_there =
-    subst (HoldsFiles new) (sym (recordings-imported s file sound summary valid))
-    (AllByRecursion-push (λ (r : Recording). new r.take ≡ Some r.file) s.recordings (new_recording s file sound summary)
-    (HoldsFiles-kept s old new valid holds kept) put_there)
+    AllByRecursion-put (λ (r : Recording). new r.take ≡ Some r.file) recording_before (new_recording s file sound summary) s.recordings
+    put_there (HoldsFiles-kept s old new valid holds kept)
 
 -- ---- the empty state
 
 -- The state with no recording is valid.
 pub empty-IsValid : IsValid empty_state
-empty-IsValid = record {
-  albums = (omega arith, omega arith);
-  recordings = (omega arith, omega arith);
-  takes = (omega arith, omega arith);
-  ascend = tt;
-  ids_given = tt;
-  takes_given = tt;
-  takes_differ = tt;
-  files = tt;
-}
+empty-IsValid = record { rows = empty-AreInOrder; files = tt }
 
 -- Its tables are the empty ones.
 pub tables_of-empty : tables_of empty_state ≡ empty_tables

@@ -20,8 +20,10 @@ use Rattle.library_model.specs.declared.refusals.Refusal.TheVariants.{Vault, Kee
 use Rattle.library_model.specs.declared.messages.Question.TheVariants as about
 use Rattle.library_model.specs.Machine.{recording_reply, import_verdict, imported, question_reply, recording_of, accepts, stays}
 use Rattle.library_model.specs.Replies.{json, format_refusal, refusal}
-use Rattle.library_model.specs.Stands.{recording_row}
-use Rattle.library_model.specs.State.{Recording, State, IsGiven, IsValid, empty_state}
+use Rattle.library_model.specs.InOrder.{IsGiven}
+use Rattle.library_model.specs.Stands.{IsValid, recording_row}
+use Rattle.library_model.specs.State.{Recording, State, empty_state}
+use Rattle.library_model.proofs.Imports.{given_of}
 
 -- ---- one recording
 
@@ -116,7 +118,7 @@ question_reply-other = refl
 
 -- No recording of a valid state has the id 0.
 pub recording_of-zero : (s : State) → IsValid s → recording_of 0 s.recordings ≡ None
-recording_of-zero s valid = not_given s.next_recording s.recordings valid.ids_given
+recording_of-zero s valid = not_given s.next_recording s.recordings (given_of s valid).0
   where
     not_given : (next : ℕ) (recordings : List Recording)
         → AllByRecursion (λ (r : Recording). IsGiven next r.id) recordings → recording_of 0 recordings ≡ None

@@ -2,6 +2,7 @@ pub mod Asked
 pub mod Bodies
 pub mod Exchanges
 pub mod Findings
+pub mod InOrder
 pub mod Machine
 pub mod Named
 pub mod Names

@@ -12,8 +12,11 @@ use Rattle.keeper_store.specs.declared.row_types.RecordingRow.{RecordingRow}
 use Rattle.keeper_store.specs.declared.row_types.SegmentRow.{SegmentRow}
 use Rattle.keeper_store.specs.EnergyBytes.{row_bytes}
 use Rattle.keeper_store.specs.Puts.{put, segments_less}
-use Rattle.library_model.specs.Findings.{measured_of}
-use Rattle.library_model.specs.State.{Recording, State, IsValid}
+use Rattle.library_model.specs.declared.messages.Command.{Command}
+use Rattle.library_model.specs.declared.messages.Command.TheVariants.{Import}
+use Rattle.library_model.specs.Findings.{Finds, measured, measured_of}
+use Rattle.library_model.specs.InOrder.{AreInOrder}
+use Rattle.library_model.specs.State.{Recording, State}
 
 -- The row of a recording: its id, the album that it is in, its name, its take, and the MD5 of its file (RFC 1321), beside its
 -- channels, the bits of a sample, and its levels. Only this word writes such a row.
@@ -58,9 +61,18 @@ tables_of s = record {
   replies = [];
 }
 
+-- A state is valid: its tables are in order, and each file reads as its sound, which has its levels.
+pub record IsValid (s : State) : Type 0 where
+  pub rows : AreInOrder (tables_of s)
+  pub files : AllByRecursion (λ (r : Recording). Finds r.file (measured r.sound r.summary)) s.recordings
+
 -- the file of each recording is kept under its take
 abbrev pub HoldsFiles : Blobs → List Recording → Type 0
 HoldsFiles blobs recordings = AllByRecursion (λ (r : Recording). blobs r.take ≡ Some r.file) recordings
+
+-- the key holds the file that a command brings, where it brings one
+abbrev pub HoldsFileOf : Command → ℕ → Blobs → Type 0
+HoldsFileOf (Import file) key blobs = blobs key ≡ Some file
 
 -- Tables and blobs stand for a state: a valid one, whose tables and files they are. Other keys may hold anything or nothing.
 pub record Stands (tables : Tables) (blobs : Blobs) (s : State) : Type 0 where

@@ -51,15 +51,17 @@ tables_stay None = tt
 tables_stay (Some t) = refl
 
 -- the row that opening refused is the first that breaks a rule
-pub bad_opened : (told : Option Tables) (why : OpenRefusal) (row : BadRow) → why ≡ refusal.BadRow row
-    → IfSome told (λ t. OpensOver t (Err why)) → IfSome told (λ t. first_bad t ≡ Some row)
-bad_opened told why row is opens =
+pub bad_opened : (told : Option Tables) (why : OpenRefusal) (table id rule : ℕ) → why ≡ refusal.BadRow table id rule
+    → IfSome told (λ t. OpensOver t (Err why))
+    → IfSome told (λ t. first_bad t ≡ Some (record { table = table; id = id; rule = rule }))
+bad_opened told why table id rule is opens =
     let P : OpenRefusal → Type 0 = λ e. IfSome told (λ t. OpensOver t (Err e)) in
-    bad_row told row (subst P is opens)
+    bad_row told (subst P is opens)
   where
-    bad_row : (told : Option Tables) (row : BadRow) → IfSome told (λ t. OpensOver t (Err (refusal.BadRow row))) → IfSome told (λ t. first_bad t ≡ Some row)
-    bad_row None row h = tt
-    bad_row (Some t) row h = h
+    bad_row : (told : Option Tables) → IfSome told (λ t. OpensOver t (Err (refusal.BadRow table id rule)))
+        → IfSome told (λ t. first_bad t ≡ Some (record { table = table; id = id; rule = rule }))
+    bad_row None h = tt
+    bad_row (Some t) h = h
 
 -- a fact of any tables, where they are told
 for_told : (told : Option Tables) (P : Tables → Type 0) → ((t : Tables) → P t) → IfSome told P
@@ -79,7 +81,7 @@ pub bad_row_status : (course : Course) (words : List (List ℕ)) (before now : S
 bad_row_status not_a_command words before now n runs is = absurd (runs.0 is)
 bad_row_status (not_opened refusal.KeeperFault) words before now n runs is = for_told before.keeper.tables _ (λ t h. inr (inl runs.3))
 bad_row_status (not_opened refusal.Memory) words before now n runs is = for_told before.keeper.tables _ (λ t h. inr (inr (inr runs.3)))
-bad_row_status (not_opened (refusal.BadRow row)) words before now n runs is = for_told before.keeper.tables _ (λ t h. printed (bad_row_line row) before.sink now.sink runs.3)
+bad_row_status (not_opened (refusal.BadRow table id rule)) words before now n runs is = for_told before.keeper.tables _ (λ t h. printed (bad_row_line table id rule) before.sink now.sink runs.3)
   where
     printed : (line : List ℕ) (sink_before sink_now : SinkView) → Prints line status.BadRow sink_before sink_now n
         → (n ≡ code status.BadRow) ⊎ ((n ≡ code status.KeeperFault) ⊎ IsBrokenOff n)
@@ -172,10 +174,11 @@ fixed_as not_a_command words before now n runs source sink keeper input left t t
     ]
 fixed_as (not_opened refusal.KeeperFault) words before now n runs source sink keeper input left t told = absurd (keeper runs.3)
 fixed_as (not_opened refusal.Memory) words before now n runs source sink keeper input left t told = inl runs.3
-fixed_as (not_opened (refusal.BadRow row)) words before now n runs source sink keeper input left t told =
+fixed_as (not_opened (refusal.BadRow table id rule)) words before now n runs source sink keeper input left t told =
+    let row : BadRow = record { table = table; id = id; rule = rule } in
     let bad : first_bad t ≡ Some row = of_told (λ u. first_bad u ≡ Some row) before.keeper.tables t told runs.2 in
     let some : IsSome (first_bad t) = subst (λ (o : Option BadRow). IsSome o) (sym bad) refl in
-    elim (printed_status (bad_row_line row) status.BadRow before.sink now.sink n runs.3 sink) [
+    elim (printed_status (bad_row_line table id rule) status.BadRow before.sink now.sink n runs.3 sink) [
       | inl memory ↦ inl memory
       | inr printed ↦ inr (inr (inl (runs.0, some, printed)))
     ]

@@ -12,7 +12,6 @@ use Rattle.keeper_store.specs.declared.contents.Tables.{Tables}
 use Rattle.library_model.specs.Asked.{Asked}
 use Rattle.http_model.specs.Framing.{End, ended, unframeable, RequestsOf}
 use Rattle.library_model.specs.State.{empty_state}
-use Rattle.catalogue_core.specs.declared.libraries.BadRow.{BadRow}
 use Rattle.catalogue_core.specs.declared.libraries.Library.{Library}
 use Rattle.catalogue_core.specs.declared.libraries.OpenRefusal.{OpenRefusal}
 use Rattle.catalogue_core.specs.declared.libraries.OpenRefusal.TheVariants as refusal
@@ -49,9 +48,9 @@ abbrev pub usage_line : List ℕ
 usage_line = codes "usage: loudlib session, serve, report, audit, trial or tag" ++ 10 ∷ []
 
 -- the line for a row that breaks a rule
-abbrev pub bad_row_line : BadRow → List ℕ
-bad_row_line row =
-    codes "bad row: table " ++ decimal row.table ++ codes " id " ++ decimal row.id ++ codes " rule " ++ decimal row.rule ++ 10 ∷ []
+abbrev pub bad_row_line : ℕ → ℕ → ℕ → List ℕ
+bad_row_line table id rule =
+    codes "bad row: table " ++ decimal table ++ codes " id " ++ decimal id ++ codes " rule " ++ decimal rule ++ 10 ∷ []
 
 -- a fault of the sink, or want of memory
 abbrev pub IsBrokenOff : ℕ → Type 0
@@ -105,9 +104,10 @@ Runs (not_opened refusal.KeeperFault) words before now n =
     IsCommand words × Leaves before now × (now.sink ≡ before.sink) × (n ≡ code status.KeeperFault)
 Runs (not_opened refusal.Memory) words before now n =
     IsCommand words × Leaves before now × (now.sink ≡ before.sink) × (n ≡ code status.Memory)
-Runs (not_opened (refusal.BadRow row)) words before now n =
-    IsCommand words × Leaves before now × IfSome before.keeper.tables (λ t. first_bad t ≡ Some row)
-    × Prints (bad_row_line row) status.BadRow before.sink now.sink n
+Runs (not_opened (refusal.BadRow table id rule)) words before now n =
+    IsCommand words × Leaves before now
+    × IfSome before.keeper.tables (λ t. first_bad t ≡ Some (record { table = table; id = id; rule = rule }))
+    × Prints (bad_row_line table id rule) status.BadRow before.sink now.sink n
 Runs (served how answered) words before now n =
     IsCommand words × Served how answered before now × (n ≡ code (status_of how))
 

@@ -9,7 +9,7 @@ ghost use Rattle.report_cli.specs.Statuses.{code, status_of};
 ghost use Rattle.library_http.specs.declared.serving.How.{How};
 
 use crate::statuses::Status;
-use catalogue_core::{BadRow, Library, OpenRefusal};
+use catalogue_core::{Library, OpenRefusal};
 use keeper_store::{Keeper, Vault};
 use lib_base::{Door, Memory, Outside, Sink, Source, write_all};
 use library_http::session;
@@ -85,7 +85,9 @@ fn run_session<R: Threads + Sync, S: Source, K: Sink, D: Keeper, V: Vault>(
     match Library::open(alloc, keeper) {
         Ok(library) => serve(rt, alloc, library, source, sink, keeper, vault),
         Err(OpenRefusal::KeeperFault) => Status::KeeperFault,
-        Err(OpenRefusal::BadRow(row)) => print_bad_row(alloc, row, sink),
+        Err(OpenRefusal::BadRow { table, id, rule }) => {
+            print_bad_row(alloc, table, id, rule, sink)
+        }
         Err(OpenRefusal::Memory) => Status::Memory,
     }
 }
@@ -124,24 +126,21 @@ fn serve<R: Threads + Sync, S: Source, K: Sink, D: Keeper, V: Vault>(
 }
 
 /// Writes the line for a row that breaks a rule.
-fn print_bad_row<K: Sink>(alloc: Global, row: BadRow, sink: &mut K) -> Status
-    ensures prints { Prints (bad_row_line row) Status.BadRow (K.shown sink.old) (K.shown sink.new) (code result) }
+fn print_bad_row<K: Sink>(alloc: Global, table: u8, id: u64, rule: u8, sink: &mut K) -> Status
+    ensures prints { Prints (bad_row_line table id rule) Status.BadRow (K.shown sink.old) (K.shown sink.new) (code result) }
     ensures faults { CountsFault (result ≡ Status.SinkFault) (K.shown sink.old).faults (K.shown sink.new).faults }
 {
-    match bad_row_text(alloc, row) {
+    match bad_row_text(alloc, table, id, rule) {
         Ok(text) => print(sink, text.as_bytes(), Status::BadRow),
         Err(Memory) => Status::Memory,
     }
 }
 
 /// The line for a row that breaks a rule.
-fn bad_row_text(alloc: Global, row: BadRow) -> Result<String, Memory>
-    ensures { IfOk result (λ text. string_bytes text ≡ bad_row_line row) }
+fn bad_row_text(alloc: Global, table: u8, id: u64, rule: u8) -> Result<String, Memory>
+    ensures { IfOk result (λ text. string_bytes text ≡ bad_row_line table id rule) }
 {
-    let text = format!(in alloc;
-        "bad row: table {} id {} rule {}\n",
-        row.table, row.id, row.rule
-    )?;
+    let text = format!(in alloc; "bad row: table {table} id {id} rule {rule}\n")?;
     Ok(text)
 }
 

@@ -50,7 +50,7 @@ returns-in-Err-KeeperFault-clause-runs g c = λ words is. (
 
 pub returns-in-Err-BadRow-clause-runs : goal.returns-in-Err-BadRow-clause-runs
 returns-in-Err-BadRow-clause-runs g c = λ words is. (
-  not_opened (refusal.BadRow c.in-Err-BadRow.row),
+  not_opened (refusal.BadRow c.in-Err-BadRow.table c.in-Err-BadRow.id c.in-Err-BadRow.rule),
   (
     is,
     record {
@@ -60,7 +60,7 @@ returns-in-Err-BadRow-clause-runs g c = λ words is. (
       applies = c.open.ensures.applies;
       vault = refl;
     },
-    bad_opened _ _ _ c.in-Err-BadRow.field-0-is c.in-Err-BadRow.ensures.opens,
+    bad_opened _ _ _ _ _ c.in-Err-BadRow.field-0-is c.in-Err-BadRow.ensures.opens,
     c.print_bad_row.ensures.prints,
   ),
 )
