@@ -1,0 +1,57 @@
+//! Targets, the routes that they find, and their methods. Memory is ample here.
+use crate::{Paths, Route};
+use std::test::Fail;
+
+#[test]
+fn targets_find_routes(rt: HostRuntime) -> Result<(), Fail> {
+    let paths = Paths::new(rt.alloc())?;
+    for (target, want) in [
+        ("/albums", Some(Route::Albums)),
+        ("/recordings", Some(Route::Recordings)),
+        ("/albums/01/recordings", Some(Route::AlbumRecordings)),
+        ("/recordings/1/audio", Some(Route::Audio)),
+        ("/recordings/1/album", Some(Route::RecordingAlbum)),
+        ("/recordings/2147483647", Some(Route::Recording)),
+        ("/recordings/-1", Some(Route::Recording)),
+        ("/recordings/F\u{fc}r", Some(Route::Recording)),
+        ("/albums/1", Some(Route::Album)),
+        ("/", None),
+        ("", None),
+        ("*", None),
+        ("/albums/", None),
+        ("/recordings/", None),
+        ("/recordings/1/", None),
+        ("/recordings/1/audio/", None),
+        ("/recordings/1/file", None),
+        ("/albums/1/album", None),
+        ("/groups", None),
+        ("/report.csv", None),
+        ("/recordings?x=1", None),
+        ("//recordings", None),
+        ("/Recordings", None),
+        ("/recordings/1/2/audio", None),
+    ] {
+        assert_eq!(rt; paths.find(target), want, "{target}");
+    }
+    Ok(())
+}
+
+#[test]
+fn routes_have_methods(rt: HostRuntime) -> Result<(), Fail> {
+    for (route, allowed) in [
+        (Route::Albums, "POST"),
+        (Route::Recordings, "POST"),
+        (Route::AlbumRecordings, "POST"),
+        (Route::Audio, "PUT"),
+        (Route::RecordingAlbum, "PUT"),
+        (Route::Recording, "GET, DELETE"),
+        (Route::Album, "GET, DELETE"),
+    ] {
+        assert_eq!(rt; route.allowed(), allowed, "{route:?}");
+        for method in ["GET", "POST", "PUT", "DELETE", "PATCH", "HEAD", "get", ""] {
+            let has = !method.is_empty() && allowed.contains(method);
+            assert_eq!(rt; route.has_method(method), has, "{route:?} {method}");
+        }
+    }
+    Ok(())
+}
