@@ -2,4 +2,6 @@ pub mod Runs
 pub mod Imports
 pub mod Measuring
 pub mod Readings
+pub mod RowBounds
 pub mod Rows
+pub mod WorkedRules
