@@ -4,4 +4,6 @@ pub mod Imports
 pub mod Accepting
 pub mod Measuring
 pub mod Verdicts
+pub mod RowBounds
 pub mod Rows
+pub mod WorkedRules
