@@ -4,6 +4,7 @@ ghost use Rattle.std.specs.Prelude.{◌≡◌, None, false};
 use crate::faults::Faults;
 use crate::halves::{TcpSink, TcpSource};
 use lib_base::{Door, Outside};
+use std::fmt;
 use std::io::{self, ErrorKind, Read};
 use std::net::{Ipv4Addr, Net, OpenListener, OpenStream, Shutdown, TcpListener};
 use std::rt::Clock;
@@ -88,7 +89,7 @@ impl<'r, R: Net + Clock + Eprint> Door for TcpDoor<'r, R> {
                 Ok((source, TcpSink::new(self.rt, writing)))
             }
             Err(reason) => {
-                self.faults.add(self.rt, "the door", reason);
+                self.faults.add(self.rt, Port(self.port), reason);
                 Err(Outside::Failed)
             }
         }
@@ -105,6 +106,16 @@ impl<'r, R: Net + Clock + Eprint> Door for TcpDoor<'r, R> {
         self.out = false;
         drop(sink);
         hang_up(self.rt, source.into_stream());
+    }
+}
+
+/// A port, which prints as a line on standard error names it.
+#[derive(Clone, Copy)]
+struct Port(u16);
+
+impl fmt::Display for Port {
+    fn fmt<W: fmt::Write>(&self, f: &mut fmt::Formatter<W>) -> fmt::Result {
+        write!(f, "port {}", self.0)
     }
 }
 

@@ -1,0 +1,105 @@
+//! Changes made in the database.
+use crate::refusals::Refusal;
+use crate::schema::kind_name;
+use keeper_store::{Batch, Change, RecordingRow};
+use lib_base::Summary;
+use sqlite::types::ValueRef;
+use sqlite::{Alter, Connection, Error, ErrorCode, Transaction, params};
+
+const PUT_COUNTERS: &str = "INSERT OR REPLACE INTO counters VALUES (1, ?1, ?2, ?3)";
+
+const PUT_RECORDING: &str = "INSERT OR REPLACE INTO recordings VALUES \
+    (?1, ?2, ?3, ?4, ?5, ?6, ?7, ?8, ?9, ?10, ?11, ?12, ?13, ?14, ?15, ?16)";
+
+const PUT_SEGMENTS: &str = "INSERT OR REPLACE INTO segments VALUES (?1, ?2)";
+
+/// Makes all the changes of the batch in one transaction, or none.
+pub(crate) fn make_batch<S: Alter>(
+    database: &mut Connection<S>,
+    batch: &Batch,
+) -> Result<(), Refusal> {
+    if !database.is_autocommit() {
+        return Err(Refusal::Database(Error::SqliteFailure(
+            ErrorCode::TransactionState,
+        )));
+    }
+    let mut work = database.transaction();
+    for change in batch.changes.as_slice() {
+        make(&mut work, change)?;
+    }
+    work.commit()?;
+    Ok(())
+}
+
+/// Makes one change.
+fn make<S: Alter>(work: &mut Transaction<'_, S>, change: &Change) -> Result<(), Refusal> {
+    match change {
+        Change::Counters {
+            next_album,
+            next_recording,
+            next_take,
+        } => run(
+            work,
+            PUT_COUNTERS,
+            params![*next_album, *next_recording, *next_take],
+        ),
+        Change::PutRecording(row) => put_recording(work, row),
+        Change::PutSegments(row) => run(
+            work,
+            PUT_SEGMENTS,
+            params![row.take, row.energies.as_slice()],
+        ),
+    }
+}
+
+fn put_recording<S: Alter>(
+    work: &mut Transaction<'_, S>,
+    row: &RecordingRow,
+) -> Result<(), Refusal> {
+    let levels = &row.summary;
+    let Some((frames, peak)) = counts(levels) else {
+        return Err(Refusal::Row {
+            table: "recordings",
+            id: i64::from(row.id),
+        });
+    };
+    run(
+        work,
+        PUT_RECORDING,
+        params![
+            row.id,
+            row.album,
+            row.name.as_str(),
+            row.take,
+            kind_name(row.kind),
+            u32::from(row.channels),
+            u32::from(row.depth),
+            row.digest.as_slice(),
+            frames,
+            levels.loudness,
+            levels.range,
+            levels.momentary,
+            levels.short_term,
+            levels.true_peak,
+            peak,
+            levels.gain,
+        ],
+    )
+}
+
+/// The frames and the peak as the database keeps numbers, None where one has no room there.
+fn counts(levels: &Summary) -> Option<(i64, i64)> {
+    let frames = i64::try_from(levels.frames).ok()?;
+    let peak = i64::try_from(levels.peak).ok()?;
+    Some((frames, peak))
+}
+
+/// Runs one statement.
+fn run<S: Alter>(
+    work: &mut Transaction<'_, S>,
+    sql: &str,
+    params: &[ValueRef<'_>],
+) -> Result<(), Refusal> {
+    work.execute(sql, params)?;
+    Ok(())
+}
