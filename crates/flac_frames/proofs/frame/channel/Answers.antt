@@ -5,7 +5,7 @@ use Rattle.flac_frames.proofs.frame.channel.Goals as goal
 pub overflow_mul-start : goal.overflow_mul-start
 overflow_mul-start c =
     let start = (start_fits c.args.channel c.args.block _ c.requires).0 in
-    let same = ap length c.as_slice-cells.ensures in omega (arith, start, same, c.len.ensures)
+    let same = ap length c.as_slice-cells.ensures in omega (arith, start, same)
 
 -- the cells of the channel, as the list of all channels has them
 pub returns-clause-list : goal.returns-clause-list
