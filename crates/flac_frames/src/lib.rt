@@ -5,10 +5,12 @@
 //! place. Nothing takes memory.
 #![tactic(auto)]
 
+mod frame;
 mod header;
 mod rules;
 #[cfg(test)]
 mod tests;
 
 pub use file_model::{Info, Stereo};
+pub use frame::{FrameEnd, GREATEST_BLOCK, channel, read_frame};
 pub use header::{Header, read_header};
