@@ -1,2 +1,9 @@
+pub mod Frames
 pub mod Places
+pub mod Residuals
+pub mod Sounds
+pub mod Spelling
+pub mod Stereos
+pub mod Subframes
+pub mod Times
 pub mod Wholes

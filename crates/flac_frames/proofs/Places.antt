@@ -39,3 +39,11 @@ pub four_whole : (all start one two three four : List Bool) → start ≡ all �
     → TakesBytes three four → TakesBytes all four
 four_whole all start one two three four is a b c d =
     let size = ap length is in (omega (arith, a.0, b.0, c.0, d.0), omega (arith, a.1, b.1, c.1, d.1))
+
+-- its bytes are there
+pub byte_inside : (bytes : List ℕ) (value : ℕ) (before behind : List Bool) → TakesBytes (bits bytes) before → field 8 before ≡ Ok (value, behind)
+    → bytes_before bytes before + 1 ≤ length bytes
+byte_inside bytes value before behind takes is =
+    let long = length-bits bytes in
+    let shorter = field_shorter 8 value before behind is in
+    omega (arith, takes.0, takes.1, shorter)

@@ -5,8 +5,9 @@ ghost use Rattle.file_model.specs.Bits.{bits};
 ghost use Rattle.file_model.specs.Crc.{crc8};
 ghost use Rattle.file_model.specs.FlacHeader.{bytes_before, codes_at, size_at, rate_at, named_rate, channels_of, stereo_of, depth_of, header_at};
 ghost use Rattle.file_model.specs.Outcomes.{Gives, Is};
+ghost use Rattle.flac_frames.specs.declared.frame.TheConstants.{GREATEST_BLOCK};
 ghost use Rattle.flac_frames.specs.Answers.{Answers};
-ghost use Rattle.flac_frames.specs.Headers.{codes_of, header_of, TakesBytes};
+ghost use Rattle.flac_frames.specs.Headers.{codes_of, header_of, IsFit, TakesBytes};
 
 use crate::rules::{broken, holds};
 use bit_codec::{BitReader, crc8};
@@ -47,16 +48,18 @@ struct Codes {
 /// than the file's, then of the check.
 pub fn read_header(bytes: &[u8], at: usize, info: &Info) -> Result<Header, Broken>
     requires { at ≤ length bytes.now }
-    ensures { Answers header_of at (Is (header_at info.now (drop at bytes.now))) result }
+    ensures header { Answers header_of at (Is (header_at info.now (drop at bytes.now))) result }
+    ensures fits { IfOk result (IsFit info.now bytes.now at) }
 {
     header_at(bytes, at, info).map_err(|rule| broken(rule, at))
 }
 
 /// The header of the frame that begins at a place.
 #[tactic(auto, using(crate::proofs::Wholes::coded_whole), unfolding(file_model::specs::FlacHeader::header_at))]
-fn header_at(bytes: &[u8], at: usize, info: &Info) -> Result<Header, FlacRule>
+pub(crate) fn header_at(bytes: &[u8], at: usize, info: &Info) -> Result<Header, FlacRule>
     requires { at ≤ length bytes.now }
-    ensures { Gives header_of result (header_at info.now (drop at bytes.now)) }
+    ensures gives { Gives header_of result (header_at info.now (drop at bytes.now)) }
+    ensures fits { IfOk result (IsFit info.now bytes.now at) }
 {
     let mut reader = BitReader::at(bytes, at);
     let codes = read_codes(&mut reader)?;
@@ -84,7 +87,7 @@ fn header_at(bytes: &[u8], at: usize, info: &Info) -> Result<Header, FlacRule>
 
 /// Where a reader stands that took whole bytes from a place on.
 #[tactic(auto, using(crate::proofs::Places::stands_behind))]
-fn end_of(reader: &BitReader, bytes: &[u8], at: usize) -> usize
+pub(crate) fn end_of(reader: &BitReader, bytes: &[u8], at: usize) -> usize
     requires place { at ≤ length bytes.now }
     requires of_bytes { source reader.now ≡ bytes.now }
     requires whole { TakesBytes (bits (drop at bytes.now)) (left reader.now) }
@@ -140,6 +143,8 @@ fn read_block_size(reader: &mut BitReader, code: u32) -> Result<u32, FlacRule>
     requires some { 1 ≤ code }
     requires small { code < 16 }
     ensures gives { Gives (λ block. (block, left reader.new)) result (size_at code (left reader.old)) }
+    ensures some { IfOk result (λ block. 1 ≤ block) }
+    ensures few { IfOk result (λ block. block ≤ GREATEST_BLOCK) }
     ensures bytes { OnOk result (TakesBytes (left reader.old) (left reader.new)) }
     ensures whole { source reader.new ≡ source reader.old }
 {
