@@ -1,9 +1,8 @@
 -- The fields of STREAMINFO, one after another.
-use Rattle.std.proofs.Common.{◌≡◌, ◌≤◌, ◌<◌, ◌+◌, ◌-◌, ◌*◌, ◌^◌, ℕ, Bool, true, false, List, length, take, drop, length-take, length-drop, Result, Ok, Err, refl, ap, sym, ◌∙◌, arith}
+use Rattle.std.proofs.Common.{◌≡◌, ◌≤◌, ◌+◌, ◌*◌, ◌^◌, ℕ, Bool, true, false, List, length, take, drop, length-take, length-drop, Result, Ok, Err, ap, sym, ◌∙◌, arith}
 use Rattle.std.proofs.Math.Seq.{take-add}
 use Rattle.std.proofs.lemmas.List.{drop-drop}
 use Rattle.lib_base.specs.Sounds.{part}
-use Rattle.file_model.specs.declared.bits.BitFault.{BitFault}
 use Rattle.file_model.specs.Bits.{bits, number}
 use Rattle.file_model.specs.Fields.{field}
 use Rattle.file_model.specs.declared.flac_info.Info.{Info}

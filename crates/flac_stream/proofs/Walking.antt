@@ -1,5 +1,5 @@
 -- A file's blocks, one after another.
-use Rattle.std.proofs.Common.{◌≡◌, ◌≤◌, ◌<◌, ◌+◌, ◌-◌, inl, inr, ℕ, Bool, true, false, cond, not, List, [], ◌∷◌, ◌++◌, length, take, drop, length-take, length-drop, length-append, Option, None, Some, Result, Ok, Err, refl, ap, sym, ◌∙◌, subst, arith}
+use Rattle.std.proofs.Common.{◌≡◌, ◌≤◌, ◌+◌, inl, inr, ℕ, Bool, true, false, cond, not, List, [], ◌∷◌, ◌++◌, length, take, drop, length-take, length-drop, Option, None, Some, Result, Ok, Err, refl, ap, sym, ◌∙◌, arith}
 use Rattle.std.specs.Prelude.{◌==◌, ◌&&◌, ◌||◌, nat_le, is_some, codes}
 use Rattle.std.specs.List.{list_any}
 use Rattle.std.proofs.lemmas.Bool.{eqb-true, ne_eqb}
@@ -10,7 +10,7 @@ use Rattle.file_model.specs.declared.flac_rules.FlacRule.TheVariants.{CutBlock, 
 use Rattle.file_model.specs.Bits.{bits}
 use Rattle.file_model.specs.Fields.{field}
 use Rattle.file_model.specs.FlacBreaks.{FlacBreaks}
-use Rattle.file_model.specs.FlacFile.{FlacBlock, BlockRead, of_block, may_stand_first, is_repeat, block_at, BlocksUpTo, AreBlocks, first_content, IsHead}
+use Rattle.file_model.specs.FlacFile.{FlacBlock, BlockRead, of_block, may_stand_first, is_repeat, block_at}
 use Rattle.file_model.specs.Outcomes.{◌>>=◌, holds}
 use Rattle.file_model.proofs.FlacLaws.{BlocksUpTo-push}
 use Rattle.flac_stream.specs.declared.blocks.Block.{Block as Stored}

@@ -113,8 +113,14 @@ fn read_block(bytes: &[u8], at: usize, is_first: bool, has_comments: bool) -> Re
     let left = bytes.len() - at;
     holds(BLOCK_HEAD_BYTES + head.count <= left, FlacRule::CutBlock)?;
     holds(head.kind != INVALID, FlacRule::InvalidBlock)?;
-    holds(may_stand(is_first, head.kind, head.count), FlacRule::NoStreaminfo)?;
-    holds(!repeats(is_first, has_comments, head.kind), FlacRule::RepeatedBlock)?;
+    holds(
+        may_stand(is_first, head.kind, head.count),
+        FlacRule::NoStreaminfo,
+    )?;
+    holds(
+        !repeats(is_first, has_comments, head.kind),
+        FlacRule::RepeatedBlock,
+    )?;
     Ok(head)
 }
 

@@ -27,7 +27,10 @@ pub(crate) fn find_info(content: &[u8]) -> Result<Info, FlacRule>
 {
     let info = read_info(content);
     holds(info.rate == SAMPLE_RATE, FlacRule::OtherRate)?;
-    holds(info.channels <= u32::from(MOST_CHANNELS), FlacRule::OtherChannels)?;
+    holds(
+        info.channels <= u32::from(MOST_CHANNELS),
+        FlacRule::OtherChannels,
+    )?;
     holds(is_depth(info.depth), FlacRule::OtherDepth)?;
     Ok(info)
 }

@@ -3,6 +3,7 @@ use crate::opening::read_opening;
 use file_model::FlacRule;
 use lib_base::{Broken, Refused};
 use std::alloc::Global;
+use std::test::Fail;
 
 /// STREAMINFO of a sound of one channel of 16 bits, and one frame of sixteen samples of 1.
 const FILE: [u8; 54] = [
@@ -10,6 +11,22 @@ const FILE: [u8; 54] = [
     0x00, 0x00, 0x0B, 0xB8, 0x00, 0xF0, 0x00, 0x00, 0x00, 0x10, 0x00, 0x00, 0x00, 0x00, 0x00, 0x00,
     0x00, 0x00, 0x00, 0x00, 0x00, 0x00, 0x00, 0x00, 0x00, 0x00, 0xFF, 0xF8, 0x6A, 0x08, 0x00, 0x0F,
     0x0A, 0x00, 0x00, 0x01, 0xBE, 0x85,
+];
+
+/// The same STREAMINFO, which is not the last block, and two empty blocks whose types are filled in.
+const THREE: [u8; 50] = [
+    0x66, 0x4C, 0x61, 0x43, 0x00, 0x00, 0x00, 0x22, 0x00, 0x10, 0x00, 0x10, 0x00, 0x00, 0x00, 0x00,
+    0x00, 0x00, 0x0B, 0xB8, 0x00, 0xF0, 0x00, 0x00, 0x00, 0x10, 0x00, 0x00, 0x00, 0x00, 0x00, 0x00,
+    0x00, 0x00, 0x00, 0x00, 0x00, 0x00, 0x00, 0x00, 0x00, 0x00, 0x00, 0x00, 0x00, 0x00, 0x00, 0x00,
+    0x00, 0x00,
+];
+
+/// The same, with comments of one byte and then padding.
+const COMMENTED: [u8; 51] = [
+    0x66, 0x4C, 0x61, 0x43, 0x00, 0x00, 0x00, 0x22, 0x00, 0x10, 0x00, 0x10, 0x00, 0x00, 0x00, 0x00,
+    0x00, 0x00, 0x0B, 0xB8, 0x00, 0xF0, 0x00, 0x00, 0x00, 0x10, 0x00, 0x00, 0x00, 0x00, 0x00, 0x00,
+    0x00, 0x00, 0x00, 0x00, 0x00, 0x00, 0x00, 0x00, 0x00, 0x00, 0x04, 0x00, 0x00, 0x01, 0x09, 0x81,
+    0x00, 0x00, 0x00,
 ];
 
 /// What a file is refused with before its first frame, if it is.
@@ -46,7 +63,7 @@ fn each_edit_breaks_its_rule(rt: HostRuntime) {
         let mut bytes = FILE;
         bytes[place] = byte;
         assert_eq!(rt;
-            refusal(rt.alloc(), &bytes),
+            refusal(rt.alloc(), bytes.as_slice()),
             by_rule(rule, at),
             "byte {place} as {byte}"
         );
@@ -62,51 +79,51 @@ fn cut_files(rt: HostRuntime) {
         } else {
             by_rule(FlacRule::CutBlock, 4)
         };
-        assert_eq!(rt; refusal(rt.alloc(), &FILE[..length]), rule, "{length} bytes");
+        assert_eq!(rt;
+            refusal(rt.alloc(), &FILE[..length]),
+            rule,
+            "{length} bytes"
+        );
     }
 }
 
-/// STREAMINFO, not the last block, and then these heads of empty blocks.
+/// Each row: the types of the two blocks behind STREAMINFO, and the refusal.
 #[test]
 fn further_blocks(rt: HostRuntime) {
     let rows = [
-        ([0x00, 0x84], by_rule(FlacRule::RepeatedBlock, 42)),
-        ([0x04, 0x84], by_rule(FlacRule::RepeatedBlock, 46)),
-        ([0x04, 0xFF], by_rule(FlacRule::InvalidBlock, 46)),
-        ([0x01, 0x01], by_rule(FlacRule::CutBlock, 50)),
-        ([0x01, 0xFE], None),
-        ([0x81, 0x80], None),
+        (0x00, 0x84, by_rule(FlacRule::RepeatedBlock, 42)),
+        (0x04, 0x84, by_rule(FlacRule::RepeatedBlock, 46)),
+        (0x04, 0xFF, by_rule(FlacRule::InvalidBlock, 46)),
+        (0x01, 0x01, by_rule(FlacRule::CutBlock, 50)),
+        (0x01, 0xFE, None),
+        (0x81, 0x80, None),
     ];
-    for (kinds, answer) in rows {
-        let mut bytes = [0; 50];
-        bytes[..42].copy_from_slice(&FILE[..42]);
-        bytes[4] = 0x00;
-        bytes[42] = kinds[0];
-        bytes[46] = kinds[1];
-        assert_eq!(rt; refusal(rt.alloc(), &bytes), answer, "types {kinds:?}");
+    for (first, second, answer) in rows {
+        let mut bytes = THREE;
+        bytes[42] = first;
+        bytes[46] = second;
+        assert_eq!(rt;
+            refusal(rt.alloc(), bytes.as_slice()),
+            answer,
+            "types {first} and {second}"
+        );
     }
 }
 
-/// What is kept of a file with comments between padding.
+/// What is kept of a file with comments before padding.
 #[test]
-fn blocks_that_are_kept(rt: HostRuntime) {
-    let mut bytes = [0; 51];
-    bytes[..42].copy_from_slice(&FILE[..42]);
-    bytes[4] = 0x00;
-    bytes[42] = 0x04;
-    bytes[45] = 0x01;
-    bytes[46] = 0x09;
-    bytes[47] = 0x81;
-    let opening = read_opening(rt.alloc(), &bytes).expect(&rt, "a file");
+fn blocks_that_are_kept(rt: HostRuntime) -> Result<(), Fail> {
+    let opening = read_opening(rt.alloc(), COMMENTED.as_slice())?;
+    assert!(rt; opening.blocks.items.len() == 3);
     assert_eq!(rt; opening.blocks.end, 51);
     assert_eq!(rt; opening.blocks.comments, Some(1));
     assert_eq!(rt; opening.info.rate, 48_000);
     assert_eq!(rt; opening.info.channels, 1);
     assert_eq!(rt; opening.info.depth, 16);
     assert_eq!(rt; opening.info.total, 16);
-    assert_eq!(rt; opening.blocks.items.len(), 3);
     let comments = opening.blocks.items[1];
     assert_eq!(rt; comments.kind, 4);
     assert_eq!(rt; comments.content.start, 46);
     assert_eq!(rt; comments.content.end, 47);
+    Ok(())
 }
