@@ -80,12 +80,7 @@ pub fn channel(scratch: &Scratch, block: u32, channel: usize) -> &[i32]
 }
 
 /// The frame that begins at a place, its samples in the cells.
-fn frame_at(
-    bytes: &[u8],
-    at: usize,
-    info: &Info,
-    cells: &mut [i32],
-) -> Result<FrameEnd, FlacRule>
+fn frame_at(bytes: &[u8], at: usize, info: &Info, cells: &mut [i32]) -> Result<FrameEnd, FlacRule>
     requires place { at ≤ length bytes.now }
     requires some { 1 ≤ info.now.channels }
     requires few { info.now.channels ≤ 6 }

@@ -113,56 +113,64 @@ fn frames_of_two_channels(rt: HostRuntime) -> Result<(), Memory> {
         (
             16,
             b"\xFF\xF8\x6A\x18\x00\x02\x8B\x02\x00\x03\x80\x00\x7F\xFF\x02\x80\x00\x7F\xFF\x7F\
-            \xFF\x4E\x4A".as_slice(),
+            \xFF\x4E\x4A"
+                .as_slice(),
             [3, -32_768, 32_767],
             [-32_768, 32_767, 32_767],
         ),
         (
             16,
             b"\xFF\xF8\x6A\x88\x00\x02\x22\x02\x00\x03\x80\x00\x7F\xFF\x02\x40\x01\xC0\x00\x40\
-            \x00\x00\x4A\xE2".as_slice(),
+            \x00\x00\x4A\xE2"
+                .as_slice(),
             [3, -32_768, 32_767],
             [-32_768, 32_767, 32_767],
         ),
         (
             16,
             b"\xFF\xF8\x6A\x98\x00\x02\x80\x02\x40\x01\xC0\x00\x40\x00\x00\x50\x00\x0F\xFF\xEF\
-            \xFF\xE0\x0E\x9E".as_slice(),
+            \xFF\xE0\x0E\x9E"
+                .as_slice(),
             [3, -32_768, 32_767],
             [-32_768, 32_767, 32_767],
         ),
         (
             16,
             b"\xFF\xF8\x6A\xA8\x00\x02\x61\x02\xC0\x01\xFF\xFF\x7F\xFF\x02\x40\x01\xC0\x00\x40\
-            \x00\x00\x68\x22".as_slice(),
+            \x00\x00\x68\x22"
+                .as_slice(),
             [3, -32_768, 32_767],
             [-32_768, 32_767, 32_767],
         ),
         (
             24,
             b"\xFF\xF8\x6A\x1C\x00\x02\x20\x02\x00\x00\x03\x80\x00\x00\x7F\xFF\xFF\x02\x80\x00\
-            \x00\x7F\xFF\xFF\x7F\xFF\xFF\x70\xC5".as_slice(),
+            \x00\x7F\xFF\xFF\x7F\xFF\xFF\x70\xC5"
+                .as_slice(),
             [3, -8_388_608, 8_388_607],
             [-8_388_608, 8_388_607, 8_388_607],
         ),
         (
             24,
             b"\xFF\xF8\x6A\x8C\x00\x02\x89\x02\x00\x00\x03\x80\x00\x00\x7F\xFF\xFF\x02\x40\x00\
-            \x01\xC0\x00\x00\x40\x00\x00\x00\xA2\x60".as_slice(),
+            \x01\xC0\x00\x00\x40\x00\x00\x00\xA2\x60"
+                .as_slice(),
             [3, -8_388_608, 8_388_607],
             [-8_388_608, 8_388_607, 8_388_607],
         ),
         (
             24,
             b"\xFF\xF8\x6A\x9C\x00\x02\x2B\x02\x40\x00\x01\xC0\x00\x00\x40\x00\x00\x00\x50\x00\
-            \x00\x0F\xFF\xFF\xEF\xFF\xFF\xE0\x08\xE9".as_slice(),
+            \x00\x0F\xFF\xFF\xEF\xFF\xFF\xE0\x08\xE9"
+                .as_slice(),
             [3, -8_388_608, 8_388_607],
             [-8_388_608, 8_388_607, 8_388_607],
         ),
         (
             24,
             b"\xFF\xF8\x6A\xAC\x00\x02\xCA\x02\xC0\x00\x01\xFF\xFF\xFF\x7F\xFF\xFF\x02\x40\x00\
-            \x01\xC0\x00\x00\x40\x00\x00\x00\x0D\x87".as_slice(),
+            \x01\xC0\x00\x00\x40\x00\x00\x00\x0D\x87"
+                .as_slice(),
             [3, -8_388_608, 8_388_607],
             [-8_388_608, 8_388_607, 8_388_607],
         ),
@@ -197,7 +205,8 @@ fn frames_of_one_channel(rt: HostRuntime) -> Result<(), Memory> {
             "a Rice parameter of five bits",
             24,
             b"\xFF\xF8\x6A\x0C\x00\x03\x85\x10\x42\x80\x00\x3F\xFF\xFE\x00\x03\xFF\xFF\xC0\x00\
-            \x3F\xFF\xFF\x00\x00\xA0\x2D\xB0".as_slice(),
+            \x3F\xFF\xFF\x00\x00\xA0\x2D\xB0"
+                .as_slice(),
             [-8_388_608, 8_388_607, -8_388_608, 5],
         ),
         (
@@ -239,10 +248,11 @@ fn the_longest_predictor(rt: HostRuntime) -> Result<(), Memory> {
         \xC0\x12\xC0\x0C\x9F\xE7\x3F\x6A\x00\xC8\x00\x01\xFC\xE0\x09\x60\x06\x4F\xF3\x9F\
         \xB5\x00\x64\x00\x00\xFE\x70\x04\xB0\x03\x27\xF9\xCF\xDA\x80\x32\x00\x00\x7F\x38\
         \x02\x58\x01\x93\xFC\xE7\xED\x40\x19\x00\x00\x3F\x9C\x00\xC7\x5E\xC3\x00\xAE\x7A\
-        \x0C".as_slice();
+        \x0C"
+        .as_slice();
     let samples = [
-        -48, -11, 3, -6, -38, 4, 23, 19, -8, 39, -34, -33, 42, -3, 26, 32, 15, -25,
-        9, 20, 8, -27, 12, 28, 21, -9, 35, -41, -43, 29, -19, 7, 10, -10, 44, -22,
+        -48, -11, 3, -6, -38, 4, 23, 19, -8, 39, -34, -33, 42, -3, 26, 32, 15, -25, 9, 20, 8, -27,
+        12, 28, 21, -9, 35, -41, -43, 29, -19, 7, 10, -10, 44, -22,
     ];
     let read = shown(alloc, bytes, 0, &file_of(1, 16), ROOM)?;
     let wanted = whole(alloc, bytes.len(), &samples, &[])?;
@@ -334,7 +344,13 @@ fn long_blocks(rt: HostRuntime) -> Result<(), Memory> {
     let bytes = b"\xFF\xF8\x7A\x08\x00\xFF\xFF\xE3\x00\xFF\xFB\x71\x5B".as_slice();
     match shown(alloc, bytes, 0, &file_of(1, 16), ROOM)? {
         Ok(read) => {
-            assert_eq!(rt; read.end, FrameEnd { next: 13, block: 65_536 });
+            assert_eq!(rt;
+                read.end,
+                FrameEnd {
+                    next: 13,
+                    block: 65_536
+                }
+            );
             assert!(rt; read.first.iter().all(|sample| *sample == -5));
         }
         Err(broken) => assert!(rt; false, "{} at {}", broken.rule, broken.place),
@@ -343,10 +359,18 @@ fn long_blocks(rt: HostRuntime) -> Result<(), Memory> {
     for _ in 0..31 {
         bytes.extend_from_slice(&[0xC1, 0xE0, 0xF0, 0x78, 0x3C, 0x1E, 0x0F, 0x07, 0x83])?;
     }
-    bytes.extend_from_slice(&[0xC1, 0xE0, 0xF0, 0x78, 0x3C, 0x1E, 0x0F, 0x07, 0x80, 0x0B, 0x51])?;
+    bytes.extend_from_slice(&[
+        0xC1, 0xE0, 0xF0, 0x78, 0x3C, 0x1E, 0x0F, 0x07, 0x80, 0x0B, 0x51,
+    ])?;
     match shown(alloc, bytes.as_slice(), 0, &file_of(1, 16), ROOM)? {
         Ok(read) => {
-            assert_eq!(rt; read.end, FrameEnd { next: 298, block: 4_096 });
+            assert_eq!(rt;
+                read.end,
+                FrameEnd {
+                    next: 298,
+                    block: 4_096
+                }
+            );
             assert!(rt; read.first.iter().all(|sample| *sample == 0));
         }
         Err(broken) => assert!(rt; false, "{} at {}", broken.rule, broken.place),

@@ -340,8 +340,7 @@ fn restore(predictor: &Predictor, depth: u32, out: &mut [i32]) -> Result<(), Fla
         },
         Predictor::Linear(linear) => {
             let weights = linear.weights.split_at(linear.order).0;
-            restore_linear(weights, linear.shift, out, depth)
-                .map_err(|_| FlacRule::OutOfRange)
+            restore_linear(weights, linear.shift, out, depth).map_err(|_| FlacRule::OutOfRange)
         }
     }
 }

@@ -49,7 +49,7 @@ pub info_is : (content : List ℕ) (rate channels depth high low total : ℕ) (d
 unfolding info_in
 info_is content rate channels depth high low total digest long a b c d e f g =
     let whole : total ≡ bits_number content 108 36 =
-        f ∙ ap (λ (n : ℕ). n * 2 ^ 32 + low) d ∙ ap (λ (n : ℕ). bits_number content 108 4 * 2 ^ 32 + n) e ∙ number_of_36 content long in
+    f ∙ ap (λ (n : ℕ). n * 2 ^ 32 + low) d ∙ ap (λ (n : ℕ). bits_number content 108 4 * 2 ^ 32 + n) e ∙ number_of_36 content long in
     ap (λ (r : ℕ). record { rate = r; channels = channels + 1; depth = depth + 1; total = total; md5 = digest }) a
     ∙ ap (λ (n : ℕ). record { rate = bits_number content 80 20; channels = n + 1; depth = depth + 1; total = total; md5 = digest }) b
     ∙ ap (λ (n : ℕ). record { rate = bits_number content 80 20; channels = bits_number content 100 3 + 1; depth = n + 1; total = total; md5 = digest }) c

@@ -208,6 +208,7 @@ comments_more blocks comments block has first place are is_has is_place once =
   where
     none_before : (kind : ℕ) → kind ≡ 4 → repeats first has kind ≡ false → has ≡ false
     none_before kind is not_again = ap (λ (k : ℕ). repeats first has k) (sym is) ∙ not_again
+
     by_kind : (here : Bool) → (block.kind == 4) ≡ here → cond here (Some place) comments ≡ comments_from 0 (blocks ++ block ∷ [])
     by_kind true is =
         let fresh = none_before block.kind (eqb-true block.kind 4 is) once in
@@ -267,7 +268,7 @@ kept_more bytes at spans comments head span w is next =
     let long = length-told bytes at head is.inside in
     let known = knows bytes at spans comments w in
     let is_span : span ≡ stored at block =
-        same_stored span at block next.kind next.start (next.end ∙ ap (λ (n : ℕ). at + 4 + n) (sym long)) in
+    same_stored span at block next.kind next.start (next.end ∙ ap (λ (n : ℕ). at + 4 + n) (sym long)) in
     let end = next.end in
     let inside = is.inside in
     record {

@@ -18,14 +18,14 @@ returns-then-head-clause-ok c =
     let count : c.len.result ≡ length c.heads.items.items = search rules in
     let place : c.len-in-heads.result ≡ length c.heads.items.items = search rules in
     let stands = stands_there c.args.bytes.now c.heads.at c.heads.items.items c.heads.comments (head_of c.in-Ok.head) _ _ count
-        c.is_some.ensures c.in-Ok.ensures.gives c.in-Ok.ensures.inside c.in-Ok.ensures.stands c.in-Ok.ensures.once in
+    c.is_some.ensures c.in-Ok.ensures.gives c.in-Ok.ensures.inside c.in-Ok.ensures.stands c.in-Ok.ensures.once in
     let next : IsNext c.heads.at (head_of c.in-Ok.head) c.block_behind-block.result = record {
       kind = c.block_behind-block.ensures.kind;
       start = c.block_behind-block.ensures.start;
       end = c.block_behind-block.ensures.end;
     } in
     let comments = c.comments_with-comments.ensures
-        ∙ ap (λ (n : ℕ). cond (c.in-Ok.head.kind == 4) (Some n) c.heads.comments) place in
+    ∙ ap (λ (n : ℕ). cond (c.in-Ok.head.kind == 4) (Some n) c.heads.comments) place in
     subst (λ (items : List Block). Opens c.args.bytes.now items c.comments_with-comments.result c.block_behind-block.result.content.end)
     (sym c.in_ok-push.ensures.items)
     (subst (λ (place : Option ℕ). Opens c.args.bytes.now (c.heads.items.items ++ c.block_behind-block.result ∷ []) place c.block_behind-block.result.content.end)
@@ -39,14 +39,14 @@ heads-preserved c =
     let count : c.len.result ≡ length c.heads.items.items = search rules in
     let place : c.len-in-heads.result ≡ length c.heads.items.items = search rules in
     let stands = stands_there c.args.bytes.now c.heads.at c.heads.items.items c.heads.comments (head_of c.in-Ok.head) _ _ count
-        c.is_some.ensures c.in-Ok.ensures.gives c.in-Ok.ensures.inside c.in-Ok.ensures.stands c.in-Ok.ensures.once in
+    c.is_some.ensures c.in-Ok.ensures.gives c.in-Ok.ensures.inside c.in-Ok.ensures.stands c.in-Ok.ensures.once in
     let next : IsNext c.heads.at (head_of c.in-Ok.head) c.block_behind-block.result = record {
       kind = c.block_behind-block.ensures.kind;
       start = c.block_behind-block.ensures.start;
       end = c.block_behind-block.ensures.end;
     } in
     let comments = c.comments_with-comments.ensures
-        ∙ ap (λ (n : ℕ). cond (c.in-Ok.head.kind == 4) (Some n) c.heads.comments) place in
+    ∙ ap (λ (n : ℕ). cond (c.in-Ok.head.kind == 4) (Some n) c.heads.comments) place in
     subst (λ (items : List Block). Walked c.args.bytes.now c.block_behind-block.result.content.end items c.comments_with-comments.result)
     (sym c.in_ok-push.ensures.items)
     (subst (λ (place : Option ℕ). Walked c.args.bytes.now c.block_behind-block.result.content.end (c.heads.items.items ++ c.block_behind-block.result ∷ []) place)
