@@ -74,26 +74,26 @@ fn remove(rt: &HostRuntime, path: &str) -> Result<(), AllocError> {
 }
 
 /// A new keeper loads what the one in memory holds, and both take a batch. It is closed, or dropped
-/// as it is.
+/// as it is. What it loaded, what was wanted, and whether every call held.
 fn take_turn(
     rt: &HostRuntime,
     path: &str,
     memory: &mut MemKeeper,
     closes: bool,
-) -> Result<(), Fail> {
+) -> Result<(String, String, bool), Fail> {
     let alloc = rt.alloc();
     let mut keeper = SqliteKeeper::at(rt, alloc, text(alloc, path)?);
-    let wanted = memory.tables()?;
-    let loaded = keeper.load()?;
-    assert_eq!(rt; shown(alloc, &loaded)?, shown(alloc, &wanted)?);
+    let wanted = shown(alloc, &memory.tables()?)?;
+    let loaded = shown(alloc, &keeper.load()?)?;
     let changes = batch(alloc, if closes { 1 } else { (1 << 63) - 1 })?;
-    assert_eq!(rt; memory.apply(&changes), Ok(()));
-    assert_eq!(rt; keeper.apply(&changes), Ok(()));
-    assert_eq!(rt; keeper.faults(), 0);
-    if closes {
-        assert_eq!(rt; keeper.close(), Ok(()));
-    }
-    Ok(())
+    let kept = memory.apply(&changes) == Ok(());
+    let applied = keeper.apply(&changes) == Ok(()) && keeper.faults() == 0;
+    let closed = if closes {
+        keeper.close() == Ok(())
+    } else {
+        true
+    };
+    Ok((loaded, wanted, kept && applied && closed))
 }
 
 // Dropped without closing, and closed.
@@ -104,7 +104,9 @@ fn batch_outlives_its_keeper(rt: HostRuntime) -> Result<(), Fail> {
     remove(&rt, path)?;
     let mut memory = MemKeeper::new(Tables::empty(alloc), Vec::new(alloc));
     for closes in [false, true, true] {
-        take_turn(&rt, path, &mut memory, closes)?;
+        let (loaded, wanted, held) = take_turn(&rt, path, &mut memory, closes)?;
+        assert_eq!(rt; loaded, wanted);
+        assert!(rt; held);
     }
     remove(&rt, path)?;
     Ok(())
