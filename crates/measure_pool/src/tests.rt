@@ -1,6 +1,6 @@
 //! Worked sounds, which any number of workers measures alike. A script in whole numbers computed
 //! energies and peaks from the definition.
-ghost use Rattle.std.specs.Prelude.{◌≡◌, ◌<◌, ◌^◌, IfOk, All, length, vec_len};
+ghost use Rattle.std.specs.Prelude.{◌≡◌, ◌≤◌, ◌<◌, ◌^◌, IfOk, All, length, vec_len};
 ghost use Rattle.lib_base.specs.Sounds.{IsSample};
 
 use crate::plans::{Job, Plan};

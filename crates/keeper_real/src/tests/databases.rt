@@ -151,7 +151,8 @@ fn rows_are_read_or_refused(rt: HostRuntime) -> Result<(), Fail> {
         (
             "INSERT INTO albums VALUES (2, 'b', 0, 1, 2, NULL, NULL, NULL, 0, -1), \
              (1, 'a', 0, NULL, NULL, NULL, NULL, NULL, 0, NULL); \
-             INSERT INTO replies VALUES ('b', zeroblob(16), 200, x'00'), ('a', zeroblob(16), 201, x'')",
+             INSERT INTO replies VALUES ('b', x'00000000000000000000000000000000', 200, x'00'), \
+             ('a', x'00000000000000000000000000000000', 201, x'')",
             true,
         ),
         ("DELETE FROM counters", false),
@@ -171,22 +172,22 @@ fn rows_are_read_or_refused(rt: HostRuntime) -> Result<(), Fail> {
         ),
         (
             "INSERT INTO recordings VALUES \
-             (1, 1, 'a', 1, 'aiff', 1, 16, zeroblob(16), 0, 0, 0, 0, 0, 0, 0, 0)",
+             (1, 1, 'a', 1, 'aiff', 1, 16, x'00000000000000000000000000000000', 0, 0, 0, 0, 0, 0, 0, 0)",
             false,
         ),
         (
             "INSERT INTO recordings VALUES \
-             (1, 1, 'a', 1, 'wave', 256, 16, zeroblob(16), 0, 0, 0, 0, 0, 0, 0, 0)",
+             (1, 1, 'a', 1, 'wave', 256, 16, x'00000000000000000000000000000000', 0, 0, 0, 0, 0, 0, 0, 0)",
             false,
         ),
         (
             "INSERT INTO recordings VALUES \
-             (1, 1, 'a', 1, 'wave', 1, 16, zeroblob(15), 0, 0, 0, 0, 0, 0, 0, 0)",
+             (1, 1, 'a', 1, 'wave', 1, 16, x'000000000000000000000000000000', 0, 0, 0, 0, 0, 0, 0, 0)",
             false,
         ),
         ("INSERT INTO segments VALUES (4294967296, x'')", false),
         (
-            "INSERT INTO replies VALUES ('a', zeroblob(16), 65536, x'')",
+            "INSERT INTO replies VALUES ('a', x'00000000000000000000000000000000', 65536, x'')",
             false,
         ),
         ("DROP TABLE replies", false),
