@@ -100,8 +100,11 @@ pub pair_spelled : (block channels depth : ℕ) (kind : Stereo) (bits next rest 
     → Channel block (first_depth kind depth) bits (Ok (xs, next)) → Channel block (second_depth kind depth) next (Ok (ys, rest))
     → SpellsPair kind depth left right xs ys → Sound block channels depth (Some kind) bits (Ok (left ∷ right ∷ [], rest))
 pair_spelled block channels depth kind bits next rest xs ys left right one two spells =
-    inl ((xs ∷ ys ∷ [], rest), both block (first_depth kind depth) (second_depth kind depth) bits next rest xs ys one two,
-    inl (left ∷ right ∷ [], (left, right, refl, spells), refl))
+    inl (
+      (xs ∷ ys ∷ [], rest),
+      both block (first_depth kind depth) (second_depth kind depth) bits next rest xs ys one two,
+      inl (left ∷ right ∷ [], (left, right, refl, spells), refl),
+    )
 
 -- they spell none
 pub none_paired : (block channels depth : ℕ) (kind : Stereo) (bits next rest : List Bool) (xs ys : List ℤ)
@@ -109,8 +112,11 @@ pub none_paired : (block channels depth : ℕ) (kind : Stereo) (bits next rest :
     → ((left right : List ℤ) → ¬ SpellsPair kind depth left right xs ys) → Sound block channels depth (Some kind) bits (Err OutOfRange)
 none_paired block channels depth kind bits next rest xs ys one two none =
     let no_lists : (lists : List (List ℤ)) → ¬ IsPairOf kind depth xs ys lists = λ lists is. none is.0 is.1 is.3 in
-    inl ((xs ∷ ys ∷ [], rest), both block (first_depth kind depth) (second_depth kind depth) bits next rest xs ys one two,
-    inr (OutOfRange, (no_lists, refl), refl))
+    inl (
+      (xs ∷ ys ∷ [], rest),
+      both block (first_depth kind depth) (second_depth kind depth) bits next rest xs ys one two,
+      inr (OutOfRange, (no_lists, refl), refl),
+    )
 
 -- two channels at the start of the cells
 pub two_chunks : (block : ℕ) (first second back : List ℤ) → length first ≡ block → length second ≡ block

@@ -223,9 +223,10 @@ shifted_high half power whole (negsuc n) is some wide high = omega (arith, ints,
 pub shifted_within : (depth wasted : ℕ) (s : ℤ) → wasted < depth → IsSample (depth - wasted) s → IsSample depth (s *ℤ pos (2 ^ wasted))
 shifted_within depth wasted s fewer within =
     let parts : 2 ^ (depth - wasted - 1) * 2 ^ wasted ≡ 2 ^ (depth - 1) =
-    sym (pow-add 2 (depth - wasted - 1) wasted) ∙ ap (λ (n : ℕ). 2 ^ n) (let same : depth - wasted - 1 + wasted ≡ depth - 1 = omega (arith, fewer) in same) in
-    (shifted_low (2 ^ (depth - wasted - 1)) (2 ^ wasted) (2 ^ (depth - 1)) s parts within.0,
-    shifted_high (2 ^ (depth - wasted - 1)) (2 ^ wasted) (2 ^ (depth - 1)) s parts (pow_pos wasted) (pow_pos (depth - 1)) within.1)
+    sym (pow-add 2 (depth - wasted - 1) wasted) ∙ ap (λ (n : ℕ). 2 ^ n) (let same : depth - wasted - 1 + wasted ≡ depth - 1 = omega (arith, fewer) in same) in (
+      shifted_low (2 ^ (depth - wasted - 1)) (2 ^ wasted) (2 ^ (depth - 1)) s parts within.0,
+      shifted_high (2 ^ (depth - wasted - 1)) (2 ^ wasted) (2 ^ (depth - 1)) s parts (pow_pos wasted) (pow_pos (depth - 1)) within.1,
+    )
 
 -- no bits behind samples leave them as they are
 pub none_behind : (wasted : ℕ) (xs : List ℤ) → wasted ≡ 0 → xs ≡ map (λ (s : ℤ). s *ℤ pos (2 ^ wasted)) xs

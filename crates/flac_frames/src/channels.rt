@@ -27,8 +27,9 @@ pub(crate) fn read_sound(
     requires block { header.now.block ≤ GREATEST_BLOCK }
     requires pair { IfSome header.now.stereo (λ _. info.now.channels ≡ 2) }
     requires room { info.now.channels * header.now.block ≤ length cells.old }
-    ensures comes { Comes (λ _. (first_chunks header.now.block info.now.channels cells.new, left reader.new))
-        (Sound header.now.block info.now.channels info.now.depth header.now.stereo (left reader.old)) result }
+    ensures comes { let header = header.now in let info = info.now in
+        Comes (λ _. (first_chunks header.block info.channels cells.new, left reader.new))
+        (Sound header.block info.channels info.depth header.stereo (left reader.old)) result }
     ensures later { OnOk result (length (left reader.new) ≤ length (left reader.old)) }
     ensures whole { source reader.new ≡ source reader.old }
 {

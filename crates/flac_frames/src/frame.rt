@@ -38,8 +38,8 @@ pub struct FrameEnd {
 /// # Errors
 ///
 /// The bytes from there on are refused with the rule of a frame that they break first, in the order
-/// of the bits: a residual's range as it is read, samples' depth behind their subframe, the range of
-/// a restored pair behind the last subframe.
+/// of the bits: a residual's range as it is read, the depth of samples behind their subframe, that
+/// of a restored pair behind the last one.
 pub fn read_frame(
     bytes: &[u8],
     at: usize,
@@ -80,19 +80,15 @@ pub fn channel(scratch: &Scratch, block: u32, channel: usize) -> &[i32]
 }
 
 /// The frame that begins at a place, its samples in the cells.
-fn frame_at(
-    bytes: &[u8],
-    at: usize,
-    info: &Info,
-    cells: &mut [i32],
-) -> Result<FrameEnd, FlacRule>
+fn frame_at(bytes: &[u8], at: usize, info: &Info, cells: &mut [i32]) -> Result<FrameEnd, FlacRule>
     requires place { at ≤ length bytes.now }
     requires some { 1 ≤ info.now.channels }
     requires few { info.now.channels ≤ 6 }
     requires low { 4 ≤ info.now.depth }
     requires high { info.now.depth ≤ 24 }
     requires room { info.now.channels * GREATEST_BLOCK ≤ length cells.old }
-    ensures comes { Comes (frame_in cells.new info.now.channels at) (Frame info.now (drop at bytes.now)) result }
+    ensures comes { Comes (frame_in cells.new info.now.channels at)
+        (Frame info.now (drop at bytes.now)) result }
     ensures next { IfOk result (λ end. (at < end.next) × (end.next ≤ length bytes.now)) }
     ensures block { IfOk result (λ end. (1 ≤ end.block) × (end.block ≤ GREATEST_BLOCK)) }
 {
@@ -133,13 +129,14 @@ fn body_at(
     }
 }
 
-/// Reads the footer of a frame that begins at a place: zeros to a whole byte, and the check. Its end
-/// is the frame's.
+/// Reads the footer of a frame that begins at a place, zeros to a whole byte and the check, and
+/// tells where both end.
 fn read_footer(reader: &mut BitReader, bytes: &[u8], at: usize) -> Result<usize, FlacRule>
     requires place { at ≤ length bytes.now }
     requires of_bytes { source reader.old ≡ bytes.now }
     requires behind { length (left reader.old) ≤ length (bits (drop at bytes.now)) }
-    ensures gives { Gives (λ end. end - at) result (footer_at (drop at bytes.now) (left reader.old)) }
+    ensures gives { Gives (λ end. end - at) result
+        (footer_at (drop at bytes.now) (left reader.old)) }
     ensures next { IfOk result (λ end. (at < end) × (end ≤ length bytes.now)) }
 {
     if reader.align() {
@@ -155,7 +152,8 @@ fn read_check(reader: &mut BitReader, bytes: &[u8], at: usize) -> Result<usize, 
     requires place { at ≤ length bytes.now }
     requires of_bytes { source reader.old ≡ bytes.now }
     requires whole { TakesBytes (bits (drop at bytes.now)) (left reader.old) }
-    ensures gives { Gives (λ end. end - at) result (check_at (drop at bytes.now) (left reader.old)) }
+    ensures gives { Gives (λ end. end - at) result
+        (check_at (drop at bytes.now) (left reader.old)) }
     ensures next { IfOk result (λ end. (at < end) × (end ≤ length bytes.now)) }
 {
     let end = end_of(reader, bytes, at);

@@ -8,6 +8,8 @@
 
 mod channels;
 mod frame;
+#[cfg(test)]
+mod frame_tests;
 mod header;
 mod residual;
 mod rules;

@@ -87,8 +87,9 @@ fn read_coded(
     requires high { depth ≤ 25 }
     requires room { HasRoom (length out.old) coding }
     requires block { length out.old ≤ GREATEST_BLOCK }
-    ensures comes { Comes (λ _. (out.new, left reader.new)) (Spelled depth
-        (content_at (coding_as coding) (length out.old) (depth - wasted) wasted (left reader.old))) result }
+    ensures comes { let content = content_at (coding_as coding) (length out.old) (depth - wasted)
+        wasted (left reader.old) in
+        Comes (λ _. (out.new, left reader.new)) (Spelled depth content) result }
     ensures within { OnOk result (All (IsSample depth) out.new) }
     ensures later { OnOk result (length (left reader.new) ≤ length (left reader.old)) }
     ensures whole { source reader.new ≡ source reader.old }
@@ -217,8 +218,9 @@ fn read_content(
     requires high { depth ≤ 32 }
     requires room { HasRoom (length out.old) coding }
     requires block { length out.old ≤ GREATEST_BLOCK }
-    ensures gives { (wasted : ℕ) → Gives (λ predictor. (coded_by predictor out.new wasted, left reader.new))
-        result (content_at (coding_as coding) (length out.old) depth wasted (left reader.old)) }
+    ensures gives { (wasted : ℕ) → Gives
+        (λ predictor. (coded_by predictor out.new wasted, left reader.new)) result
+        (content_at (coding_as coding) (length out.old) depth wasted (left reader.old)) }
     ensures ready { IfOk result (λ predictor. IsReady depth predictor out.new) }
     ensures later { OnOk result (length (left reader.new) ≤ length (left reader.old)) }
     ensures whole { source reader.new ≡ source reader.old }
@@ -259,8 +261,9 @@ fn read_fixed(
     requires high { depth ≤ 32 }
     requires room { order ≤ length out.old }
     requires block { length out.old ≤ GREATEST_BLOCK }
-    ensures gives { (wasted : ℕ) → Gives (λ _. (coded_by (by.Fixed order) out.new wasted, left reader.new))
-        result (content_at (fixed order) (length out.old) depth wasted (left reader.old)) }
+    ensures gives { (wasted : ℕ) → Gives
+        (λ _. (coded_by (by.Fixed order) out.new wasted, left reader.new)) result
+        (content_at (fixed order) (length out.old) depth wasted (left reader.old)) }
     ensures warm_up { OnOk result (All (IsSample depth) (take order out.new)) }
     ensures later { OnOk result (length (left reader.new) ≤ length (left reader.old)) }
     ensures whole { source reader.new ≡ source reader.old }
@@ -283,8 +286,9 @@ fn read_linear(
     requires few { order ≤ 32 }
     requires room { order ≤ length out.old }
     requires block { length out.old ≤ GREATEST_BLOCK }
-    ensures gives { (wasted : ℕ) → Gives (λ linear. (coded_by (by.Linear linear) out.new wasted, left reader.new))
-        result (content_at (linear order) (length out.old) depth wasted (left reader.old)) }
+    ensures gives { (wasted : ℕ) → Gives
+        (λ linear. (coded_by (by.Linear linear) out.new wasted, left reader.new)) result
+        (content_at (linear order) (length out.old) depth wasted (left reader.old)) }
     ensures order { IfOk result (λ linear. linear.order ≡ order) }
     ensures weights { IfOk result AreWeights }
     ensures warm_up { OnOk result (All (IsSample depth) (take order out.new)) }
@@ -336,8 +340,7 @@ fn restore(predictor: &Predictor, depth: u32, out: &mut [i32]) -> Result<(), Fla
         },
         Predictor::Linear(linear) => {
             let weights = linear.weights.split_at(linear.order).0;
-            restore_linear(weights, linear.shift, out, depth)
-                .map_err(|_| FlacRule::OutOfRange)
+            restore_linear(weights, linear.shift, out, depth).map_err(|_| FlacRule::OutOfRange)
         }
     }
 }

@@ -3,8 +3,7 @@ use crate::refusals::Refusal;
 use crate::schema::TABLES;
 use sqlite::{Alter, Connection, Error, ErrorCode, FileFrom, FileStore, Wary};
 use std::alloc::AllocError;
-use std::fs;
-use std::io;
+use std::{fs, io};
 
 /// A database in a file and its log, opened with no hypothesis on torn writes.
 pub(crate) type Database = Connection<FileStore<FileFrom<Wary>>>;
@@ -17,11 +16,7 @@ const QUICK: u64 = 50 << 20;
 ///
 /// The pages have no sums, which an ordinary sqlite3 that writes would spoil: rows are checked by
 /// their rules whenever they are loaded.
-pub(crate) fn open(
-    rt: &HostRuntime,
-    path: &str,
-    takes: Option<&str>,
-) -> Result<Database, Refusal> {
+pub(crate) fn open(rt: &HostRuntime, path: &str, takes: Option<&str>) -> Result<Database, Refusal> {
     say_if_long(rt, path);
     let mut database = match Connection::open_from(rt, path, false, Wary) {
         Ok(database) => database,
@@ -44,9 +39,7 @@ fn is_new<S: Alter>(database: &mut Connection<S>) -> Result<bool, Refusal> {
 /// Makes the tables in one transaction.
 fn make_tables<S: Alter>(database: &mut Connection<S>) -> Result<(), Refusal> {
     if !database.is_autocommit() {
-        return Err(Refusal::Database(Error::SqliteFailure(
-            ErrorCode::TransactionState,
-        )));
+        return Err(Refusal::Database(Error::SqliteFailure(ErrorCode::TransactionState)));
     }
     let mut work = database.transaction();
     work.execute_batch(TABLES)?;

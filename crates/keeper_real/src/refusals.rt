@@ -39,7 +39,9 @@ impl fmt::Display for Refusal {
             Refusal::Memory => f.write_str("out of memory"),
             Refusal::Database(error) => write!(f, "{error}"),
             Refusal::Row { table, id } => write!(f, "row {id} of {table} can't be one"),
-            Refusal::Orphans => f.write_str("a new database, where the folder of takes holds files"),
+            Refusal::Orphans => f.write_str(
+                "a new database, where the folder of takes holds files",
+            ),
         }
     }
 }

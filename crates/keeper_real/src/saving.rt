@@ -19,9 +19,7 @@ pub(crate) fn make_batch<S: Alter>(
     batch: &Batch,
 ) -> Result<(), Refusal> {
     if !database.is_autocommit() {
-        return Err(Refusal::Database(Error::SqliteFailure(
-            ErrorCode::TransactionState,
-        )));
+        return Err(Refusal::Database(Error::SqliteFailure(ErrorCode::TransactionState)));
     }
     let mut work = database.transaction();
     for change in batch.changes.as_slice() {

@@ -51,6 +51,7 @@ accepted-IsImported s file reply next decides = by_finding decides.0 decides.1 d
           take_left = left.1;
           next_is = ap (state_after s) is;
         }
+
     by_finding : (finding : Finding) → Finds file finding → accepts reply next ≡ import_verdict s file finding → IsImported s file next
     by_finding (broken_by rule place) finds is = absurd (cc is)
     by_finding (measured sound summary) finds is =

@@ -24,7 +24,6 @@ pub AllByRecursion-unmap : {A B : Type 0} (P : B → Type 0) (f : A → B) (xs :
 AllByRecursion-unmap P f [] all = tt
 AllByRecursion-unmap P f (x ∷ xs) all = (all.0, AllByRecursion-unmap P f xs all.1)
 
-
 -- takes differ where a row with another take is put
 pub Differ-put : (row : RecordingRow) (rows : List RecordingRow) → Differ (map (λ (r : RecordingRow). r.take) rows)
     → AllByRecursion (λ (r : RecordingRow). r.take ≢ row.take) rows
@@ -35,12 +34,13 @@ Differ-put row (r ∷ rows) differ other =
   where
     Other : List RecordingRow → ℕ → Type 0
     Other rs take = AllByRecursion (λ (later : ℕ). later ≢ take) (map (λ (r : RecordingRow). r.take) rs)
+
     cases : Differ (map (λ (r : RecordingRow). r.take) (put recording_less row rows)) → (first second : Bool)
         → Differ (map (λ (r : RecordingRow). r.take) (cond first (r ∷ put recording_less row rows) (cond second (row ∷ r ∷ rows) (row ∷ rows))))
     cases more true second = (
       AllByRecursion-map (λ (later : ℕ). later ≢ r.take) (λ (s : RecordingRow). s.take) (put recording_less row rows)
-      (AllByRecursion-put (λ (s : RecordingRow). s.take ≢ r.take) recording_less row rows (λ e. other.0 (sym e))
-      (AllByRecursion-unmap (λ (later : ℕ). later ≢ r.take) (λ (s : RecordingRow). s.take) rows differ.0)),
+          (AllByRecursion-put (λ (s : RecordingRow). s.take ≢ r.take) recording_less row rows (λ e. other.0 (sym e))
+          (AllByRecursion-unmap (λ (later : ℕ). later ≢ r.take) (λ (s : RecordingRow). s.take) rows differ.0)),
       more,
     )
     cases more false true = (

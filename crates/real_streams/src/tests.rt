@@ -158,13 +158,21 @@ fn standard_streams_move_bytes(rt: HostRuntime) -> Result<(), Fail> {
     system.input = b"short";
     let mut source = StdSource::new(&system);
     let mut piece = [0; 4];
-    for (count, bytes) in [(4, b"shor".as_slice()), (1, b"t".as_slice()), (0, b"".as_slice())] {
+    for (count, bytes) in [
+        (4, b"shor".as_slice()),
+        (1, b"t".as_slice()),
+        (0, b"".as_slice()),
+    ] {
         assert_eq!(rt; source.read(&mut piece), Ok(count));
         assert_eq!(rt; &piece[..bytes.len()], bytes);
     }
     assert_eq!(rt; source.faults(), 0);
     let mut sink = StdSink::new(&system);
-    for (bytes, count) in [(b"four".as_slice(), 3), (b"r".as_slice(), 1), (b"".as_slice(), 0)] {
+    for (bytes, count) in [
+        (b"four".as_slice(), 3),
+        (b"r".as_slice(), 1),
+        (b"".as_slice(), 0),
+    ] {
         assert_eq!(rt; sink.write(bytes), Ok(count));
     }
     assert_eq!(rt; sink.faults(), 0);

@@ -13,6 +13,7 @@ use Rattle.http_model.specs.Framing.{End, ended, unframeable, RequestsOf, input_
 use Rattle.http_model.specs.declared.refusals.FramingRefusal.TheVariants.{Size}
 use Rattle.http_model.specs.Refusals.{framing_refusal}
 use Rattle.library_model.specs.State.{empty_state}
+use Rattle.library_model.proofs.Imports.{empty-IsValid}
 use Rattle.http_model.proofs.Readings.{RequestsOf-unique}
 use Rattle.catalogue_core.specs.declared.libraries.BadRow.{BadRow}
 use Rattle.catalogue_core.specs.declared.libraries.Library.{Library}
@@ -31,19 +32,7 @@ use Rattle.report_cli.specs.Running.{Seen, Course, not_a_command, not_opened, se
 
 -- a library of no row keeps the empty state
 pub keeps_empty : (library : Library) → Holds library empty_tables → Keeps library empty_state
-keeps_empty library h = record {
-  valid = record {
-    albums = (omega arith, omega arith);
-    recordings = (omega arith, omega arith);
-    takes = (omega arith, omega arith);
-    ascend = tt;
-    ids_given = tt;
-    takes_given = tt;
-    takes_differ = tt;
-    files = tt;
-  };
-  rows = h;
-}
+keeps_empty library h = record { valid = empty-IsValid; rows = h }
 
 -- what is told stays
 pub tables_stay : (told : Option Tables) → Goes (λ old new. new ≡ old) told told

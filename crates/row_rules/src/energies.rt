@@ -30,7 +30,9 @@ pub(crate) fn are_energies_of(frames: u64, bytes: &[u8]) -> bool
 fn are_energies(pieces: &[[u8; 11]]) -> bool
     ensures { result ≡ list_all (λ piece. nat_le (spelled piece) greatest_energy) pieces.now }
 {
-    pieces.iter().all(|piece| spelled(*piece) <= GREATEST_ENERGY)
+    pieces
+        .iter()
+        .all(|piece| spelled(*piece) <= GREATEST_ENERGY)
 }
 
 /// The number that 11 bytes spell, the highest first.

@@ -22,10 +22,7 @@ pub(crate) fn album_ids(alloc: Global, albums: &[AlbumRow]) -> Result<BTreeSet<u
 }
 
 /// The takes that have segments.
-pub(crate) fn segment_takes(
-    alloc: Global,
-    segments: &[SegmentRow],
-) -> Result<BTreeSet<u32>, Memory>
+pub(crate) fn segment_takes(alloc: Global, segments: &[SegmentRow]) -> Result<BTreeSet<u32>, Memory>
     ensures { IfOk result (λ takes. (number : ℕ) → contains nat_cmp takes number ≡ has_segments number segments.now) }
 {
     let mut takes = BTreeSet::new(alloc);

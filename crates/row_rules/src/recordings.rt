@@ -72,12 +72,7 @@ fn try_rows(
 }
 
 /// The rule that a recording's row breaks, after the one of the id before it.
-fn broken_rule(
-    tables: &Tables,
-    before: u32,
-    beside: Beside,
-    row: &RecordingRow,
-) -> Option<RowRule>
+fn broken_rule(tables: &Tables, before: u32, beside: Beside, row: &RecordingRow) -> Option<RowRule>
     ensures { result ≡ recording_rule tables.now.next_recording tables.now.next_take before (beside_of beside) row.now }
 {
     if !is_placed(before, tables.next_recording, row.id)

@@ -20,7 +20,11 @@ fn recording(
         album: levels.map(|_| 4_000_000_000),
         name: text(alloc, "Ä 'name'")?,
         take: 4_294_967_295,
-        kind: if levels.is_some() { Kind::Flac } else { Kind::Wave },
+        kind: if levels.is_some() {
+            Kind::Flac
+        } else {
+            Kind::Wave
+        },
         channels: 6,
         depth: 24,
         digest: [7; 16],
@@ -151,9 +155,18 @@ fn rows_are_read_or_refused(rt: HostRuntime) -> Result<(), Fail> {
         ("DELETE FROM counters", false),
         ("INSERT INTO counters VALUES (2, 1, 1, 1)", false),
         ("UPDATE counters SET next_take = 4294967296", false),
-        ("INSERT INTO albums VALUES (-1, 'a', 0, 0, 0, 0, 0, 0, 0, 0)", false),
-        ("INSERT INTO albums VALUES (1, 'a', -1, 0, 0, 0, 0, 0, 0, 0)", false),
-        ("INSERT INTO albums VALUES (1, 'a', 0, 2147483648, 0, 0, 0, 0, 0, 0)", false),
+        (
+            "INSERT INTO albums VALUES (-1, 'a', 0, 0, 0, 0, 0, 0, 0, 0)",
+            false,
+        ),
+        (
+            "INSERT INTO albums VALUES (1, 'a', -1, 0, 0, 0, 0, 0, 0, 0)",
+            false,
+        ),
+        (
+            "INSERT INTO albums VALUES (1, 'a', 0, 2147483648, 0, 0, 0, 0, 0, 0)",
+            false,
+        ),
         (
             "INSERT INTO recordings VALUES \
              (1, 1, 'a', 1, 'aiff', 1, 16, zeroblob(16), 0, 0, 0, 0, 0, 0, 0, 0)",
@@ -170,7 +183,10 @@ fn rows_are_read_or_refused(rt: HostRuntime) -> Result<(), Fail> {
             false,
         ),
         ("INSERT INTO segments VALUES (4294967296, x'')", false),
-        ("INSERT INTO replies VALUES ('a', zeroblob(16), 65536, x'')", false),
+        (
+            "INSERT INTO replies VALUES ('a', zeroblob(16), 65536, x'')",
+            false,
+        ),
         ("DROP TABLE replies", false),
     ] {
         remove(&rt, path)?;
@@ -210,8 +226,10 @@ fn what_is_no_database_is_refused(rt: HostRuntime) -> Result<(), Fail> {
     fs::write(&rt, "refused_text.db", "a text")?;
     remove(&rt, "refused_new.db")?;
     for path in ["refused_text.db", "refused_takes", "refused_new.db"] {
-        let mut keeper =
-            SqliteKeeper::at(&rt, alloc, text(alloc, path)?).beside(text(alloc, "refused_takes")?);
+        let mut keeper = SqliteKeeper::at(&rt, alloc, text(alloc, path)?).beside(text(
+            alloc,
+            "refused_takes",
+        )?);
         for faults in [1, 2] {
             assert_eq!(rt; keeper.load().err(), Some(Outside::Failed), "{path}");
             assert_eq!(rt; keeper.faults(), faults, "{path}");

@@ -60,7 +60,10 @@ fn failing_put_leaves_no_part(rt: HostRuntime) -> Result<(), Fail> {
         let faults = u32::from(is_due);
         assert_eq!(rt; vault.faults(), u64::from(faults), "call {failing}");
         assert_eq!(rt; files.lines.get(), faults, "call {failing}");
-        assert!(rt; fs::metadata(&rt, "put_test/7.part").is_err(), "call {failing}");
+        assert!(rt;
+            fs::metadata(&rt, "put_test/7.part").is_err(),
+            "call {failing}"
+        );
         let mut vault = FolderVault::at(&rt, alloc, text(alloc, "put_test")?);
         if let Some(held) = vault.get(7)? {
             assert_eq!(rt; held.as_slice(), b"blob".as_slice(), "call {failing}");
