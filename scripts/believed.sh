@@ -27,7 +27,7 @@ class Module:
 
     def __init__(self, crate, lines):
         self.crate, self.imports, self.aliases = crate, {}, {}
-        self.bodies, self.home, self.comments = {}, {}, {}
+        self.bodies, self.home, self.comments, self.private = {}, {}, {}, set()
         for line in lines:
             found = USE.match(line)
             if not found:
@@ -48,6 +48,8 @@ def without_comments(line):
 def read_specs(path):
     crate = path.split("/")[1]
     given = [line.rstrip("\n") for line in open(path, encoding="utf-8")]
+    if any(line.startswith("module ") for line in given):     # what stands in a module of parameters
+        given = [line[2:] if line.startswith("  ") else line for line in given]
     lines = [without_comments(line) for line in given]
     module = Module(crate, lines)
     name = kind = None
@@ -57,12 +59,15 @@ def read_specs(path):
             comment.append(before[3:])
         elif not before.strip():
             comment = []
-        if not line.strip() or re.match(r"use |pub (mod|use) |infix", line):
+        if not line.strip() or re.match(r"use |module |pub (mod|use) |infix", line):
             continue
         head = re.match(r"(?:(?:abbrev|unfoldable|pub) )*(?:(record|data) )?(\S+)(.*)$", line)
         begins = re.match(r"(abbrev|unfoldable|pub|record|data) ", line)
-        if begins:
-            kind, name = head.group(1), head.group(2)
+        alone = re.match(r"(\S+) : ", line)
+        if begins or alone:
+            kind, name = (head.group(1), head.group(2)) if begins else (None, alone.group(1))
+            if "pub " not in line:
+                module.private.add(name)
             module.bodies[name] = []
             module.comments[name] = " ".join(comment)
             module.home[name] = name
@@ -148,7 +153,7 @@ for path in sorted(glob.glob("crates/*/src/*.rt")):
             for clause in clauses(body):
                 reach(module, clause, None, by_objects, types)
 
-ORDER = ["report_cli", "library_http", "catalogue_core", "library_model",
+ORDER = ["report_cli", "library_http", "catalogue_core", "catalogue_rows", "http_model", "library_model",
          "sound_model", "file_model", "keeper_store", "lib_base"]
 rank = lambda crate: (ORDER.index(crate) if crate in ORDER else len(ORDER), crate)
 rows = {}
@@ -159,7 +164,7 @@ for path, name in by_run | by_objects:
 PAGE = "docs/DEFINITIONS.md"
 ROW = re.compile(r"\| (\w+) \| (`.*?`) \| (.*?)(?: \| (run|objects))? \|$")
 there = [(path.split(".")[0], path.split(".")[2], name)
-         for path, module in specs.items() for name in module.bodies]
+         for path, module in specs.items() for name in module.bodies if name not in module.private]
 
 
 def page_rows(lines):
