@@ -1,8 +1,8 @@
 #!/bin/bash
 # Times the import of waves of one segment into an empty library in memory, by one worker, and the
-# measuring of the same waves alone. It prints the median of their processor times, user and system
-# together, and of what imports spend outside measuring, for which the goal is less than one second for
-# 10,000 waves; and the time that it takes to ask for a recording when the library holds them all.
+# measuring of the same waves alone. It prints the least processor time of some runs of each, user and
+# system together, and the difference, which is what imports spend outside measuring: the goal is less
+# than one second for 10,000 waves. Then it prints what it takes to ask for one of the recordings.
 #
 # usage: bench/imports.sh [RUNS [WAVES]]
 # WAVES is how many waves: 10000 unless it is said.
@@ -25,25 +25,21 @@ timed() {
         echo "$work_name: $(cat "$work/done") in place of $want" >&2
         exit 1
     fi
-    awk '{ printf "%.3f", $1 + $2 }' "$work/time"
+    awk '{ printf "%.3f\n", $1 + $2 }' "$work/time"
 }
 
-# the median of a column of times in a unit, beside the least and the greatest
-median() {
-    cut -d' ' -f"$1" "$work/times" | sort -n | awk -v unit="$2" '
-        { value[NR] = $1 }
-        END { m = int((NR + 1) / 2); print value[m] " " unit " (from " value[1] " to " value[NR] " in " NR " runs)" }'
+# the least of the seconds in a file
+least() {
+    sort -n "$work/$1" | head -1
 }
 
 for ((run = 0; run < runs; run++)); do
-    measured=$(timed measure "$waves")
-    imported=$(timed import "$waves")
-    asked=$(timed ask $((waves * 10)))
-    awk -v m="$measured" -v i="$imported" -v a="$asked" -v w="$waves" \
-        'BEGIN { printf "%.3f %.3f %.3f %.2f\n", m, i, i - m, (a - i) / (w * 10) * 1e6 }' >>"$work/times"
+    timed measure "$waves" >>"$work/measured"
+    timed import "$waves" >>"$work/imported"
+    timed ask $((waves * 10)) >>"$work/asked"
 done
-
-echo "$waves waves of one segment measured: $(median 1 s)"
-echo "imported: $(median 2 s)"
-echo "outside measuring: $(median 3 s)"
-echo "one question after a recording, of $waves: $(median 4 microseconds)"
+awk -v w="$waves" -v runs="$runs" -v m="$(least measured)" -v i="$(least imported)" -v a="$(least asked)" 'BEGIN {
+    printf "%d waves of one segment, the least of %d runs: measured %.3f s, imported %.3f s\n", w, runs, m, i
+    printf "outside measuring: %.3f s\n", i - m
+    printf "a question after a recording: %.1f microseconds\n", (a - i) / (w * 10) * 1e6
+}'
