@@ -1,3 +1,4 @@
 pub mod Infos
+pub mod NextFrames
 pub mod Openings
 pub mod Walking

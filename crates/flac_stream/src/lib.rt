@@ -6,6 +6,7 @@
 #![tactic(auto)]
 
 mod blocks;
+mod frames;
 mod info;
 mod opening;
 mod rules;
