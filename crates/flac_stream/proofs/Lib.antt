@@ -1,3 +1,7 @@
+pub mod Digests
+pub mod Endings
+pub mod Framing
+pub mod Hearing
 pub mod Infos
 pub mod NextFrames
 pub mod Openings
