@@ -3,6 +3,7 @@ use Rattle.std.proofs.Common.{◌≡◌, ◌≤◌, ◌<◌, ◌+◌, ◌*◌, �
 use Rattle.std.specs.Prelude.{◌||◌, ◌&&◌, nat_eq, ℤ, pos}
 use Rattle.std.specs.Cmp.Lexicographic.{pointwise}
 use Rattle.std.specs.List.{flat_map, list_all}
+use Rattle.std.proofs.lemmas.Bool.{ne_eqb}
 use Rattle.std.proofs.lemmas.Nat.{mul-le}
 use Rattle.std.proofs.lemmas.List.{take_more, take_all, map_push, length-take-le, at_drop_more, at_drop_all, get_or_read}
 use Rattle.std.proofs.lemmas.List.Concat.{flat_map-append}
@@ -66,32 +67,28 @@ room_for channel channels block size less room =
 
 -- no digest is asked for, or the one that was computed is as it is wanted
 pub met_unasked : (asked is_zero same : Bool) → asked ≡ not is_zero → asked ≡ false → true ≡ (is_zero || same)
-met_unasked asked true same is no = refl
-met_unasked asked false same is no = let both = sym is ∙ no in absurd cc
+met_unasked asked true same is out = refl
+met_unasked asked false same is out = let both = sym is ∙ out in absurd cc
 
 pub met_asked : (asked is_zero same : Bool) → asked ≡ not is_zero → asked ≡ true → same ≡ (is_zero || same)
-met_asked asked true same is yes = let both = sym is ∙ yes in absurd cc
-met_asked asked false same is yes = refl
-
-pub asked_so : (asked is : Bool) → asked ≡ is → asked ≡ true → is ≡ true
-asked_so asked is same yes = sym same ∙ yes
+met_asked asked true same is in_use = let both = sym is ∙ in_use in absurd cc
+met_asked asked false same is in_use = refl
 
 -- where no digest is asked for, all samples are fed
 pub unasked : (asked : Bool) (digest : SoundDigest) (message other : List ℕ) → WasFed asked digest message → digest.is_asked ≡ false → WasFed asked digest other
-unasked asked digest message other fed no = record {
+unasked asked digest message other fed out = record {
   asked_is = fed.asked_is;
-  holds = λ yes. let both = sym no ∙ fed.asked_is ∙ yes in absurd cc;
+  holds = λ in_use. let both = sym out ∙ fed.asked_is ∙ in_use in absurd cc;
 }
 
 -- ---- zeros
 
 pub zero_more : (xs : List ℕ) (i : ℕ) → i < length xs → get_or xs i 0 ≡ 0 → list_all (nat_eq 0) (drop i xs) ≡ list_all (nat_eq 0) (drop (i + 1) xs)
-zero_more xs i below zero =
-    at_drop_more (list_all (nat_eq 0)) xs i 0 below ∙ ap (λ (n : ℕ). nat_eq 0 n && list_all (nat_eq 0) (drop (i + 1) xs)) zero
+zero_more xs i below is =
+    at_drop_more (list_all (nat_eq 0)) xs i 0 below ∙ ap (λ (n : ℕ). nat_eq 0 n && list_all (nat_eq 0) (drop (i + 1) xs)) is
 
 other_first : (n : ℕ) (rest : Bool) → (n ≡ 0 → ⊥) → (nat_eq 0 n && rest) ≡ false
-other_first zero rest other = absurd (other refl)
-other_first (suc n) rest other = refl
+other_first n rest other = ap (λ (b : Bool). b && rest) (ne_eqb 0 n (λ same. other (sym same)))
 
 pub zero_not : (xs : List ℕ) (i : ℕ) → i < length xs → (get_or xs i 0 ≡ 0 → ⊥) → list_all (nat_eq 0) (drop i xs) ≡ false
 zero_not xs i below other =

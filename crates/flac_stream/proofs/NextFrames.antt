@@ -65,9 +65,9 @@ samples_fit (Err broken) info before bytes header is fits some h = tt
 
 -- a test, as it is told
 pub turned : (test fact : Bool) → test ≡ not fact → test ≡ true → fact ≡ false
-turned test true is yes = let both = sym is ∙ yes in absurd cc
-turned test false is yes = refl
+turned test true is told = let both = sym is ∙ told in absurd cc
+turned test false is told = refl
 
 pub unturned : (test fact : Bool) → test ≡ not fact → test ≡ false → fact ≡ true
-unturned test true is no = refl
-unturned test false is no = let both = sym is ∙ no in absurd cc
+unturned test true is told = refl
+unturned test false is told = let both = sym is ∙ told in absurd cc

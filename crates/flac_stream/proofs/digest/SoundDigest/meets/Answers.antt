@@ -1,4 +1,4 @@
-use Rattle.std.proofs.Common.{◌∙◌, sym, ap}
+use Rattle.std.proofs.Common.{◌++◌, ◌∙◌, ℕ, List, sym, ap}
 use Rattle.std.specs.Prelude.{nat_eq}
 use Rattle.std.specs.Cmp.Lexicographic.{pointwise}
 use Rattle.md5.specs.Md5.{md5}
@@ -13,4 +13,4 @@ returns c = λ message fed.
     let yes = c.if-not-is_asked.false in
     let was = fed.holds (sym fed.asked_is ∙ yes) in
     let whole = c.finalize-digest.ensures _ (c.update.ensures was.0 was.1) in
-    c.is_same.ensures ∙ ap (pointwise nat_eq c.args.wanted.now) (whole ∙ ap md5 was.2) ∙ met_asked c.args.self.is_asked _ _ fed.asked_is yes
+    c.is_same.ensures ∙ ap (pointwise nat_eq c.args.wanted.now) (whole ∙ ap md5 (ap (λ (xs : List ℕ). was.0 ++ xs) c.as_slice.ensures.value ∙ was.2)) ∙ met_asked c.args.self.is_asked _ _ fed.asked_is yes
