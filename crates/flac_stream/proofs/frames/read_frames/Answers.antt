@@ -1,4 +1,4 @@
-use Rattle.std.proofs.Common.{◌≡◌, ◌≤◌, ◌<◌, ◌+◌, ◌*◌, ◌∙◌, ℕ, List, length, sym, subst, rules, arith}
+use Rattle.std.proofs.Common.{◌≡◌, ◌≤◌, ◌<◌, ◌+◌, ◌*◌, ◌∙◌, ◌++◌, ◌∷◌, [], ℕ, List, length, sym, subst, rules, arith}
 use Rattle.std.proofs.lemmas.Nat.{mul-le}
 use Rattle.flac_stream.specs.declared.frames.FramePlace.{FramePlace}
 use Rattle.flac_stream.specs.Frames.{AreHeard}
@@ -33,10 +33,11 @@ frames-preserved c =
     c.bytes_for-count.ensures.value c.in-Ok-feed.ensures in
     record {
       heard =
-          subst (λ (n : ℕ). AreHeard c.args.info.now c.args.bytes.now c.args.start c.in-Ok.end.next (c.frames.before + n) _ c.feed.new.self)
-          (sym c.from-before.ensures)
-          (subst (λ (ps : List FramePlace). AreHeard c.args.info.now c.args.bytes.now c.args.start c.in-Ok.end.next (c.frames.before + c.in-Ok.end.block) ps c.feed.new.self)
+          subst (λ (ps : List FramePlace). AreHeard c.args.info.now c.args.bytes.now c.args.start c.in-Ok.end.next (c.frames.before + c.from-before.result) ps c.feed.new.self)
           (sym c.in_ok-push.ensures.items)
+          (subst (λ (n : ℕ). AreHeard c.args.info.now c.args.bytes.now c.args.start c.in-Ok.end.next (c.frames.before + n)
+          (c.frames.places.items ++ record { at = c.frames.at; first = c.frames.before } ∷ []) c.feed.new.self)
+          (sym c.from-before.ensures)
           (heard_more c.args.info.now c.args.bytes.now c.args.start c.frames.at c.frames.before c.frames.places.items c.frames.digest c.feed.new.self
           c.read_next.new.scratch.cells c.in-Ok.end c.frames.invariant.heard c.requires.some fits c.in-Ok.ensures.frame c.in-Ok.ensures.next.0 c.in-Ok.ensures.next.1 feeds));
       read = (let read = c.in-Ok.ensures.read in omega (arith, read));
