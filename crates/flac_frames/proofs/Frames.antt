@@ -1,6 +1,6 @@
 -- What comes of a frame, by its parts.
 use Rattle.std.proofs.Common.{◌≡◌, ◌≤◌, ◌<◌, ◌+◌, ◌-◌, ◌*◌, ◌/◌, ◌%◌, inl, inr, ℕ, List, [], ◌∷◌, Bool, true, false, length, length-drop, take, drop, Option, Result, Ok, Err, refl, ap, sym, ◌∙◌, subst, arith}
-use Rattle.std.specs.Prelude.{ℤ}
+use Rattle.std.specs.Prelude.{ℤ, IfOk}
 use Rattle.std.proofs.lemmas.List.{drop-drop, take_at}
 use Rattle.std.specs.List.{refill}
 use Rattle.file_model.specs.declared.flac_info.Info.{Info}
@@ -12,8 +12,9 @@ use Rattle.file_model.specs.FlacHeader.{FlacHeader, bytes_before, header_at}
 use Rattle.file_model.specs.FlacFrame.{FlacFrame, footer_at, Body, Frame}
 use Rattle.file_model.specs.Outcomes.{◌>>=◌, holds}
 use Rattle.file_model.proofs.BitsLemmas.{length-bits}
+use Rattle.flac_frames.specs.declared.frame.FrameEnd.{FrameEnd}
 use Rattle.flac_frames.specs.Answers.{Comes}
-use Rattle.flac_frames.specs.Frames.{Sound, check_at}
+use Rattle.flac_frames.specs.Frames.{Sound, check_at, HasBlock}
 use Rattle.flac_frames.specs.Headers.{TakesBytes}
 use Rattle.flac_frames.proofs.Residuals.{ok_is}
 use Rattle.flac_frames.proofs.Wholes.{field_shorter}
@@ -140,3 +141,9 @@ start_shorter bytes at count start rest is less =
 -- cells that were lent whole
 pub refilled : (xs ws : List ℤ) → length ws ≡ length xs → refill (length xs) xs ws ≡ ws
 refilled xs ws same = take_at ws (drop (length ws) xs) (length xs) same
+
+-- a frame that came has the block of its header
+pub has_block : (result : Result FrameEnd FlacRule) (info : Info) (bytes : List ℕ) (header : FlacHeader) → header_at info bytes ≡ Ok header
+    → IfOk result (λ end. end.block ≡ header.block) → IfOk result (λ end. HasBlock info bytes end.block)
+has_block (Ok end) info bytes header is same = (header, is, same)
+has_block (Err rule) info bytes header is same = tt

@@ -8,7 +8,7 @@ ghost use Rattle.file_model.specs.Crc.{crc16};
 ghost use Rattle.file_model.specs.FlacFrame.{footer_at, Body, Frame};
 ghost use Rattle.file_model.specs.Outcomes.{Gives};
 ghost use Rattle.flac_frames.specs.Answers.{Answers, Comes};
-ghost use Rattle.flac_frames.specs.Frames.{check_at, frame_in};
+ghost use Rattle.flac_frames.specs.Frames.{check_at, frame_in, HasBlock};
 ghost use Rattle.flac_frames.specs.Headers.{header_of, IsFit, TakesBytes};
 
 use crate::channels::read_sound;
@@ -56,6 +56,7 @@ pub fn read_frame(
         (Frame info.now (drop at bytes.now)) result }
     ensures next { IfOk result (λ end. (at < end.next) × (end.next ≤ length bytes.now)) }
     ensures block { IfOk result (λ end. (1 ≤ end.block) × (end.block ≤ GREATEST_BLOCK)) }
+    ensures headed { IfOk result (λ end. HasBlock info.now (drop at bytes.now) end.block) }
     ensures room { length scratch.new.cells ≡ length scratch.old.cells }
 {
     match frame_at(bytes, at, info, scratch.cells.as_mut_slice()) {
@@ -91,6 +92,7 @@ fn frame_at(bytes: &[u8], at: usize, info: &Info, cells: &mut [i32]) -> Result<F
         (Frame info.now (drop at bytes.now)) result }
     ensures next { IfOk result (λ end. (at < end.next) × (end.next ≤ length bytes.now)) }
     ensures block { IfOk result (λ end. (1 ≤ end.block) × (end.block ≤ GREATEST_BLOCK)) }
+    ensures headed { IfOk result (λ end. HasBlock info.now (drop at bytes.now) end.block) }
 {
     match header_at(bytes, at, info) {
         Ok(header) => body_at(bytes, at, info, &header, cells),

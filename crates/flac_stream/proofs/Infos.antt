@@ -1,5 +1,7 @@
 -- The fields of STREAMINFO, one after another.
-use Rattle.std.proofs.Common.{◌≡◌, ◌≤◌, ◌+◌, ◌*◌, ◌^◌, ℕ, Bool, true, false, List, length, take, drop, length-take, length-drop, Result, Ok, Err, ap, sym, ◌∙◌, arith}
+use Rattle.std.proofs.Common.{◌≡◌, ◌≤◌, ◌+◌, ◌*◌, ◌^◌, ℕ, Bool, true, false, List, length, take, drop, length-take, length-drop, Result, Ok, Err, refl, ap, sym, ◌∙◌, subst, arith}
+use Rattle.std.specs.Prelude.{◌&&◌, nat_le}
+use Rattle.std.proofs.lemmas.Bool.{leb-true}
 use Rattle.std.proofs.Math.Seq.{take-add}
 use Rattle.std.proofs.lemmas.List.{drop-drop}
 use Rattle.lib_base.specs.Sounds.{part}
@@ -96,3 +98,43 @@ info_broken content rule is = placed_broken _ _ _ (info_in content) rule is
 pub info_whole : (content : List ℕ) (said : Info) → info_ruled content ≡ Ok said → info_at content ≡ Ok said
 unfolding info_ruled info_at ruled placed
 info_whole content said is = placed_whole _ _ _ (info_in content) said is
+
+-- ---- what is read
+
+placed_fits : (a b c : Bool) (info said : Info) → placed a b c info ≡ Ok said → (b ≡ true) × (c ≡ true) × (info ≡ said)
+unfolding placed
+placed_fits false b c info said is = absurd cc
+placed_fits true false c info said is = absurd cc
+placed_fits true true false info said is = absurd cc
+placed_fits true true true info said is = let same : info ≡ said = cc in (refl, refl, same)
+
+both_true : (a b : Bool) → (a && b) ≡ true → (a ≡ true) × (b ≡ true)
+both_true true b is = (refl, is)
+both_true false b is = absurd cc
+
+some_in : (content : List ℕ) → 1 ≤ (info_in content).channels
+unfolding info_in
+some_in content = omega arith
+
+-- the channels and the bits of a sample are within bounds
+pub record IsWithin (info : Info) : Type 0 where
+  pub some : 1 ≤ info.channels
+  pub few : info.channels ≤ 6
+  pub low : 4 ≤ info.depth
+  pub high : info.depth ≤ 24
+
+fits_in : (info : Info) → 1 ≤ info.channels → nat_le info.channels 6 ≡ true → (nat_le 4 info.depth && nat_le info.depth 24) ≡ true → IsWithin info
+fits_in info some few depth =
+    let both = both_true (nat_le 4 info.depth) (nat_le info.depth 24) depth in
+    record {
+      some = some;
+      few = leb-true info.channels 6 few;
+      low = leb-true 4 info.depth both.0;
+      high = leb-true info.depth 24 both.1;
+    }
+
+pub info_fits : (content : List ℕ) (info : Info) → info_at content ≡ Ok info → IsWithin info
+unfolding info_at placed
+info_fits content info is =
+    let tests = placed_fits _ _ _ (info_in content) info is in
+    subst IsWithin tests.2 (fits_in (info_in content) (some_in content) tests.0 tests.1)

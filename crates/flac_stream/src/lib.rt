@@ -1,11 +1,16 @@
-//! Reads FLAC files: their metadata blocks, and what STREAMINFO says (RFC 9639 sections 6 and 8).
+//! Reads FLAC files whole: metadata blocks, frames, and the MD5 of their samples (RFC 9639).
 //!
-//! It promises that the blocks of a file are read exactly where they are those of a FLAC file, up to
-//! the one that is flagged as the last; and that a file whose blocks or whose STREAMINFO break a
-//! rule is refused with the first rule that it breaks, at its place.
+//! It promises that a file is read exactly where it is a FLAC file, with its blocks, what STREAMINFO
+//! says and the places of its frames; and that any other is refused with the first rule that it
+//! breaks, at its place.
 #![tactic(auto)]
 
 mod blocks;
+mod digest;
+#[cfg(test)]
+mod file_tests;
+mod files;
+mod frames;
 mod info;
 mod opening;
 mod rules;
@@ -14,3 +19,4 @@ mod tests;
 
 pub use blocks::Block;
 pub use file_model::Info;
+pub use files::{FlacFile, read};

@@ -1,0 +1,127 @@
+//! The frames of a file, one after another (RFC 9639 section 9).
+ghost use Rattle.std.specs.Prelude.{◌≡◌, ◌≤◌, ◌<◌, ◌+◌, ◌*◌, ◌/◌, not, nat_le, length, drop, IfOk, IfErr};
+ghost use Rattle.file_model.specs.FlacFile.{NextFrame};
+ghost use Rattle.flac_frames.specs.Answers.{Answers};
+ghost use Rattle.flac_frames.specs.Frames.{frame_in};
+ghost use Rattle.flac_stream.specs.Answers.{IsRefusalOf};
+ghost use Rattle.flac_stream.specs.Frames.{bytes_for, IsStarted, AreHeard};
+
+use crate::digest::SoundDigest;
+use crate::rules::breaks;
+use file_model::flac_fields::MOST_SAMPLES;
+use file_model::{FlacRule, Info};
+use flac_frames::{FrameEnd, GREATEST_BLOCK, read_frame, read_header};
+use lib_base::{Broken, Refused, Scratch};
+use std::alloc::Global;
+
+/// Where a frame begins, and how many samples of each channel stand before it.
+#[derive(Clone, Copy, Debug, PartialEq, Eq)]
+pub(crate) struct FramePlace {
+    pub(crate) at: usize,
+    pub(crate) first: u64,
+}
+
+/// The frames of a file: their places, the samples of each channel, and the MD5 of all samples.
+#[derive(Drop)]
+pub(crate) struct Frames {
+    pub(crate) places: Vec<FramePlace>,
+    pub(crate) count: u64,
+    pub(crate) digest: SoundDigest,
+}
+
+/// Reads the frames from a place up to the file's end.
+pub(crate) fn read_frames(
+    alloc: Global,
+    bytes: &[u8],
+    start: usize,
+    info: &Info,
+    scratch: &mut Scratch,
+) -> Result<Frames, Refused>
+    requires place { start ≤ length bytes.now }
+    requires started { IsStarted bytes.now info.now start }
+    requires some { 1 ≤ info.now.channels }
+    requires few { info.now.channels ≤ 6 }
+    requires low { 4 ≤ info.now.depth }
+    requires high { info.now.depth ≤ 24 }
+    requires room { info.now.channels * GREATEST_BLOCK ≤ length scratch.old.cells }
+    ensures ok { IfOk result (λ frames. AreHeard info.now bytes.now start (length bytes.now)
+        frames.count frames.places.items frames.digest) }
+    ensures err { IfErr result (λ refused. IsRefusalOf bytes.now refused) }
+{
+    let mut places = Vec::new(alloc);
+    let mut digest = SoundDigest::new(alloc, &info.md5);
+    let mut before = 0u64;
+    let mut at = start;
+    'frames: while at < bytes.len() {
+        let end = match read_next(bytes, at, info, before, scratch) {
+            Ok(end) => end,
+            Err(broken) => return Err(Refused::Broken(broken)),
+        };
+        let count = bytes_for(info.depth);
+        match digest.feed(scratch, end.block, info.channels as usize, count) {
+            Ok(()) => {}
+            Err(_) => return Err(Refused::Memory),
+        }
+        places.push(FramePlace { at, first: before })?;
+        before += u64::from(end.block);
+        at = end.next;
+    }
+    Ok(Frames {
+        places,
+        count: before,
+        digest,
+    })
+}
+
+/// How many bytes a sample takes.
+fn bytes_for(depth: u32) -> usize
+    requires { depth ≤ 24 }
+    ensures value { result ≡ bytes_for depth }
+    ensures few { result ≤ 4 }
+{
+    (depth as usize + 7) / 8
+}
+
+/// Reads the frame at a place, which so many samples of each channel stand before. How many samples
+/// are read is tried between its header and its rest.
+pub(crate) fn read_next(
+    bytes: &[u8],
+    at: usize,
+    info: &Info,
+    before: u64,
+    scratch: &mut Scratch,
+) -> Result<FrameEnd, Broken>
+    requires place { at ≤ length bytes.now }
+    requires some { 1 ≤ info.now.channels }
+    requires few { info.now.channels ≤ 6 }
+    requires low { 4 ≤ info.now.depth }
+    requires high { info.now.depth ≤ 24 }
+    requires read { before ≤ MOST_SAMPLES }
+    requires room { info.now.channels * GREATEST_BLOCK ≤ length scratch.old.cells }
+    ensures frame { Answers (frame_in scratch.new.cells info.now.channels at) at
+        (NextFrame info.now before (drop at bytes.now)) result }
+    ensures next { IfOk result (λ end. (at < end.next) × (end.next ≤ length bytes.now)) }
+    ensures block { IfOk result (λ end. (1 ≤ end.block) × (end.block ≤ GREATEST_BLOCK)) }
+    ensures read { IfOk result (λ end. before + end.block ≤ MOST_SAMPLES) }
+    ensures room { length scratch.new.cells ≡ length scratch.old.cells }
+{
+    let header = match read_header(bytes, at, info) {
+        Ok(header) => header,
+        Err(broken) => return Err(broken),
+    };
+    if is_too_much(info.channels, before, header.block) {
+        return Err(breaks(FlacRule::TooManySamples, at));
+    }
+    read_frame(bytes, at, info, scratch)
+}
+
+/// Whether more samples than a file can have are those before a block and the block's.
+fn is_too_much(channels: u32, before: u64, block: u32) -> bool
+    requires few { channels ≤ 6 }
+    requires read { before ≤ MOST_SAMPLES }
+    requires block { block ≤ GREATEST_BLOCK }
+    ensures { result ≡ not (nat_le (channels * (before + block)) MOST_SAMPLES) }
+{
+    let total = u64::from(channels) * (before + u64::from(block));
+    total > MOST_SAMPLES
+}
