@@ -1,7 +1,7 @@
 //! Measures noise over and over by so many workers, for `bench/workers.sh` to time.
 //!
-//! The words are how many channels (1, 2 or 6), tenths of a second, workers (0: the call without
-//! threads) and rounds. It prints the peak and a checksum of the energies.
+//! The words are how many channels (1, 2 or 6), tenths of a second, workers and rounds. It prints the
+//! peak and a checksum of the energies.
 #![tactic(auto)]
 
 ghost use Rattle.std.specs.Prelude.{◌≡◌, ◌≤◌, ◌<◌, ◌^◌, IfOk, All, vec_len};
@@ -9,7 +9,7 @@ ghost use Rattle.lib_base.specs.Sounds.{IsSample};
 
 use anyhow::bail;
 use lib_base::{Measured, Memory, PcmSound};
-use measure_pool::{MOST_WORKERS, OpenGate, measure, measure_alone};
+use measure_pool::{MOST_WORKERS, OpenGate, measure};
 use std::alloc::Global;
 use std::env;
 
@@ -30,18 +30,8 @@ fn main(rt: HostRuntime) -> anyhow::Result<()> {
     let workers: u32 = workers.as_str().parse()?;
     let rounds: u32 = rounds.as_str().parse()?;
     for _ in 0..rounds {
-        let answer = if workers == 0 {
-            measure_alone(alloc, &sound)
-        } else {
-            measure(
-                &rt,
-                alloc,
-                &sound,
-                workers.clamp(1, MOST_WORKERS),
-                &OpenGate,
-            )
-        };
-        let Ok(found) = answer else {
+        let workers = workers.clamp(1, MOST_WORKERS);
+        let Ok(found) = measure(&rt, alloc, &sound, workers, &OpenGate) else {
             bail!("want of memory");
         };
         println!(rt; "{} {}", found.peak, checksum(&found))?;
