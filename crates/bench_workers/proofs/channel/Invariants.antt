@@ -4,4 +4,4 @@ use Rattle.lib_base.specs.Sounds.{IsSample}
 use Rattle.bench_workers.proofs.channel.Given as goal
 
 abbrev pub invariant-places : goal.invariant-places
-invariant-places l = (All (IsSample l.depth) l.samples.items) × (length l.samples.items ≡ l.counter)
+invariant-places l = (All (IsSample 24) l.samples.items) × (length l.samples.items ≡ l.counter)
