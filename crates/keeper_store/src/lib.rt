@@ -6,6 +6,7 @@
 #![tactic(auto)]
 
 mod contents;
+mod drops;
 mod energy_bytes;
 mod keepers;
 mod places;
@@ -16,6 +17,7 @@ mod tests;
 mod vaults;
 
 pub use contents::{Batch, Change, Changes, NextNumbers, Tables};
+pub use drops::{Numbered, drop_row};
 pub use energy_bytes::{RowFault, bytes_of, energies_of};
 pub use keepers::{Keeper, MemKeeper};
 pub use places::{Ranked, put_row};
