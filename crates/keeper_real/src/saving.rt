@@ -1,17 +1,28 @@
 //! Changes made in the database.
 use crate::refusals::Refusal;
 use crate::schema::kind_name;
-use keeper_store::{Batch, Change, RecordingRow};
+use keeper_store::{AlbumRow, Batch, Change, RecordingRow, ReplyRow};
 use lib_base::Summary;
 use sqlite::types::ValueRef;
 use sqlite::{Alter, Connection, Error, ErrorCode, Transaction, params};
 
 const PUT_COUNTERS: &str = "INSERT OR REPLACE INTO counters VALUES (1, ?1, ?2, ?3)";
 
+const PUT_ALBUM: &str =
+    "INSERT OR REPLACE INTO albums VALUES (?1, ?2, ?3, ?4, ?5, ?6, ?7, ?8, ?9, ?10)";
+
 const PUT_RECORDING: &str = "INSERT OR REPLACE INTO recordings VALUES \
     (?1, ?2, ?3, ?4, ?5, ?6, ?7, ?8, ?9, ?10, ?11, ?12, ?13, ?14, ?15, ?16)";
 
 const PUT_SEGMENTS: &str = "INSERT OR REPLACE INTO segments VALUES (?1, ?2)";
+
+const PUT_REPLY: &str = "INSERT OR REPLACE INTO replies VALUES (?1, ?2, ?3, ?4)";
+
+const DROP_ALBUM: &str = "DELETE FROM albums WHERE id = ?1";
+
+const DROP_RECORDING: &str = "DELETE FROM recordings WHERE id = ?1";
+
+const DROP_SEGMENTS: &str = "DELETE FROM segments WHERE take = ?1";
 
 /// Makes all the changes of the batch in one transaction, or none.
 pub(crate) fn make_batch<S: Alter>(
@@ -41,13 +52,44 @@ fn make<S: Alter>(work: &mut Transaction<'_, S>, change: &Change) -> Result<(), 
             PUT_COUNTERS,
             params![*next_album, *next_recording, *next_take],
         ),
+        Change::PutAlbum(row) => put_album(work, row),
         Change::PutRecording(row) => put_recording(work, row),
         Change::PutSegments(row) => run(
             work,
             PUT_SEGMENTS,
             params![row.take, row.energies.as_slice()],
         ),
+        Change::PutReply(row) => put_reply(work, row),
+        Change::DropAlbum { id } => run(work, DROP_ALBUM, params![*id]),
+        Change::DropRecording { id } => run(work, DROP_RECORDING, params![*id]),
+        Change::DropSegments { take } => run(work, DROP_SEGMENTS, params![*take]),
     }
+}
+
+fn put_album<S: Alter>(work: &mut Transaction<'_, S>, row: &AlbumRow) -> Result<(), Refusal> {
+    let levels = &row.summary;
+    let Some((frames, peak)) = counts(levels) else {
+        return Err(Refusal::Row {
+            table: "albums",
+            id: i64::from(row.id),
+        });
+    };
+    run(
+        work,
+        PUT_ALBUM,
+        params![
+            row.id,
+            row.name.as_str(),
+            frames,
+            levels.loudness,
+            levels.range,
+            levels.momentary,
+            levels.short_term,
+            levels.true_peak,
+            peak,
+            levels.gain,
+        ],
+    )
 }
 
 fn put_recording<S: Alter>(
@@ -81,6 +123,19 @@ fn put_recording<S: Alter>(
             levels.true_peak,
             peak,
             levels.gain,
+        ],
+    )
+}
+
+fn put_reply<S: Alter>(work: &mut Transaction<'_, S>, row: &ReplyRow) -> Result<(), Refusal> {
+    run(
+        work,
+        PUT_REPLY,
+        params![
+            row.token.as_str(),
+            row.mark.as_slice(),
+            u32::from(row.status),
+            row.body.as_slice(),
         ],
     )
 }

@@ -1,7 +1,9 @@
 //! A database as a keeper.
 use super::text;
 use crate::SqliteKeeper;
-use keeper_store::{Batch, Change, Changes, Keeper, MemKeeper, RecordingRow, SegmentRow, Tables};
+use keeper_store::{
+    AlbumRow, Batch, Change, Changes, Keeper, MemKeeper, RecordingRow, ReplyRow, SegmentRow, Tables,
+};
 use lib_base::{Bytes, Kind, Outside, Summary};
 use sqlite::{Connection, Error};
 use std::alloc::{AllocError, Global};
@@ -28,17 +30,56 @@ fn recording(
         channels: 6,
         depth: 24,
         digest: [7; 16],
-        summary: Summary {
-            frames,
-            loudness: levels,
-            range: levels,
-            momentary: levels,
-            short_term: levels,
-            true_peak: levels,
-            peak: 139_007_098_880,
-            gain: levels,
-        },
+        summary: summary(frames, levels),
     })
+}
+
+fn summary(frames: u64, levels: Option<i32>) -> Summary {
+    Summary {
+        frames,
+        loudness: levels,
+        range: levels,
+        momentary: levels,
+        short_term: levels,
+        true_peak: levels,
+        peak: 139_007_098_880,
+        gain: levels,
+    }
+}
+
+fn album(alloc: Global, id: u32, levels: Option<i32>) -> Result<AlbumRow, AllocError> {
+    Ok(AlbumRow {
+        id,
+        name: text(alloc, "É")?,
+        summary: summary(7, levels),
+    })
+}
+
+fn reply(alloc: Global, token: &str, status: u16) -> Result<ReplyRow, AllocError> {
+    Ok(ReplyRow {
+        token: text(alloc, token)?,
+        mark: [5; 16],
+        status,
+        body: Bytes::of(Vec::from_slice(alloc, b"\0\n")?),
+    })
+}
+
+/// Albums and replies, of which one is put again, and drops of rows that are there and of rows that
+/// are not.
+fn push_others(alloc: Global, changes: &mut Vec<Change>) -> Result<(), AllocError> {
+    for (id, levels) in [(7, Some(1)), (2, None), (7, None), (5, Some(-1))] {
+        changes.push(Change::PutAlbum(album(alloc, id, levels)?))?;
+    }
+    for (token, status) in [("b", 201), ("B", 200), ("b-1", 409), ("b", 404)] {
+        changes.push(Change::PutReply(reply(alloc, token, status)?))?;
+    }
+    changes.push(Change::PutRecording(recording(alloc, 4, 7, None)?))?;
+    for (id, album, take) in [(4, 5, 2), (6, 8, 4)] {
+        changes.push(Change::DropRecording { id })?;
+        changes.push(Change::DropAlbum { id: album })?;
+        changes.push(Change::DropSegments { take })?;
+    }
+    Ok(())
 }
 
 /// Each change, and a row that is put again.
@@ -56,6 +97,7 @@ fn batch(alloc: Global, frames: u64) -> Result<Batch, AllocError> {
         let energies = Bytes::of(Vec::from_slice(alloc, bytes)?);
         changes.push(Change::PutSegments(SegmentRow { take, energies }))?;
     }
+    push_others(alloc, &mut changes)?;
     Ok(Batch {
         changes: Changes::of(changes),
     })
