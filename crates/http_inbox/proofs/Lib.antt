@@ -1,1 +1,4 @@
+pub mod FieldLemmas
 pub mod FillLemmas
+pub mod HeadLemmas
+pub mod InboxLemmas

@@ -1,9 +1,10 @@
 //! Bytes read straight to where they are wanted.
-ghost use Rattle.std.specs.Prelude.{◌≡◌, ◌≤◌, length, take, drop};
+ghost use Rattle.std.specs.Prelude.{◌≡◌, ◌≤◌, length, take, drop, IfOk};
 ghost use Rattle.lib_base.specs.Sources.{Reads};
 ghost use Rattle.http_inbox.specs.Filling.{Fills};
 
-use lib_base::{Failed, ReadEnd, Source};
+use lib_base::{Failed, Memory, ReadEnd, Source};
+use std::alloc::Global;
 
 /// Reads until `into` is full, and answers how many bytes came and why the reading ended. They stand
 /// at the front of `into`.
@@ -23,11 +24,23 @@ pub fn fill<S: Source>(source: &mut S, into: &mut [u8]) -> (usize, ReadEnd)
 }
 
 /// Reads one piece to behind the first `done` bytes, which stay.
-fn read_behind<S: Source>(source: &mut S, into: &mut [u8], done: usize) -> Result<usize, Failed>
+pub(crate) fn read_behind<S: Source>(
+    source: &mut S,
+    into: &mut [u8],
+    done: usize,
+) -> Result<usize, Failed>
     requires { done ≤ length into.old }
     ensures length { length into.new ≡ length into.old }
     ensures front { take done into.new ≡ take done into.old }
     ensures reads { Reads (S.shown source.old) (S.shown source.new) (drop done into.new) result }
 {
     source.read(into.split_at_mut(done).1)
+}
+
+/// So many zeros.
+pub(crate) fn zeros(alloc: Global, size: usize) -> Result<Vec<u8>, Memory>
+    ensures { IfOk result (λ zeros. length zeros.items ≡ size) }
+{
+    let zeros = vec![in alloc; 0; size]?;
+    Ok(zeros)
 }

@@ -4,8 +4,12 @@
 #![tactic(auto)]
 
 mod filling;
+mod heads;
+mod inbox;
 
 pub use filling::fill;
+pub use heads::{FieldSpan, Heading};
+pub use inbox::{HeadRead, Inbox};
 
 #[cfg(test)]
 mod tests;
