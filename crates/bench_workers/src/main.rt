@@ -1,10 +1,10 @@
 //! Measures noise over and over by so many workers, for `bench/workers.sh` to time.
 //!
-//! The words are how many channels (1, 2 or 6), tenths of a second, workers and rounds. It prints the
-//! peak and a checksum of the energies.
+//! The words are how many channels (1, 2 or 6), the bits of a sample (16 or 24), tenths of a second,
+//! workers and rounds. It prints the peak and a checksum of the energies.
 #![tactic(auto)]
 
-ghost use Rattle.std.specs.Prelude.{◌≡◌, ◌≤◌, ◌<◌, ◌^◌, IfOk, All, vec_len};
+ghost use Rattle.std.specs.Prelude.{◌≡◌, ◌<◌, ◌^◌, ◌⊎◌, IfOk, All, vec_len};
 ghost use Rattle.lib_base.specs.Sounds.{IsSample};
 
 use anyhow::bail;
@@ -19,12 +19,12 @@ const TENTH: u32 = 4_800;
 fn main(rt: HostRuntime) -> anyhow::Result<()> {
     let alloc = rt.alloc();
     let words: Vec<String> = env::args(&rt)?.skip(1).collect(alloc)?;
-    let [channels, tenths, workers, rounds] = words.as_slice() else {
-        bail!("usage: bench_workers CHANNELS TENTHS WORKERS ROUNDS");
+    let [channels, bits, tenths, workers, rounds] = words.as_slice() else {
+        bail!("usage: bench_workers CHANNELS BITS TENTHS WORKERS ROUNDS");
     };
     let tenths: u16 = tenths.as_str().parse()?;
     let frames = (u32::from(tenths) * TENTH) as usize;
-    let Ok(sound) = noise(alloc, channels.as_str(), frames) else {
+    let Ok(sound) = noise(alloc, channels.as_str(), depth_of(bits.as_str()), frames) else {
         bail!("want of memory");
     };
     let workers: u32 = workers.as_str().parse()?;
@@ -39,14 +39,22 @@ fn main(rt: HostRuntime) -> anyhow::Result<()> {
     Ok(())
 }
 
+/// The bits of a sample that the word tells: 16, or else 24.
+fn depth_of(word: &str) -> u32
+    ensures { (result ≡ 16) ⊎ (result ≡ 24) }
+{
+    if word == "16" { 16 } else { 24 }
+}
+
 /// Noise on so many channels: 1, 6, or else 2.
-fn noise(alloc: Global, channels: &str, frames: usize) -> Result<PcmSound, Memory>
-    requires { frames < 2 ^ 60 }
+fn noise(alloc: Global, channels: &str, depth: u32, frames: usize) -> Result<PcmSound, Memory>
+    requires depth { (depth ≡ 16) ⊎ (depth ≡ 24) }
+    requires frames { frames < 2 ^ 60 }
 {
     match channels {
-        "1" => mono(alloc, frames),
-        "6" => six(alloc, frames),
-        _ => stereo(alloc, frames),
+        "1" => mono(alloc, depth, frames),
+        "6" => six(alloc, depth, frames),
+        _ => stereo(alloc, depth, frames),
     }
 }
 
@@ -58,54 +66,64 @@ fn checksum(found: &Measured) -> u64 {
 }
 
 /// Noise of a channel, by the linear congruential generator of Numerical Recipes.
-fn channel(alloc: Global, seed: u32, frames: usize) -> Result<Vec<i32>, Memory>
-    ensures within { IfOk result (λ v. All (IsSample 24) v.items) }
+fn channel(alloc: Global, seed: u32, depth: u32, frames: usize) -> Result<Vec<i32>, Memory>
+    requires { (depth ≡ 16) ⊎ (depth ≡ 24) }
+    ensures within { IfOk result (λ v. All (IsSample depth) v.items) }
     ensures count { IfOk result (λ v. vec_len v ≡ frames) }
 {
-    let mut samples = Vec::new(alloc);
+    let mut samples = Vec::with_capacity(alloc, frames)?;
     let mut state = seed;
     'places: for _ in 0..frames {
         state = state.wrapping_mul(1_664_525).wrapping_add(1_013_904_223);
-        samples.push(upper_bits(state))?;
+        samples.push(upper_bits(state, depth))?;
     }
     Ok(samples)
 }
 
-fn upper_bits(state: u32) -> i32
-    ensures { IsSample 24 result }
+/// The upper bits of a number, so many of them, as a sample.
+fn upper_bits(state: u32, depth: u32) -> i32
+    requires { (depth ≡ 16) ⊎ (depth ≡ 24) }
+    ensures { IsSample depth result }
 {
-    (state >> 8) as i32 - 8_388_608
+    if depth == 16 {
+        (state >> 16) as i32 - 32_768
+    } else {
+        (state >> 8) as i32 - 8_388_608
+    }
 }
 
 /// Noise on one channel.
-fn mono(alloc: Global, frames: usize) -> Result<PcmSound, Memory>
-    requires { frames < 2 ^ 60 }
+fn mono(alloc: Global, depth: u32, frames: usize) -> Result<PcmSound, Memory>
+    requires depth { (depth ≡ 16) ⊎ (depth ≡ 24) }
+    requires frames { frames < 2 ^ 60 }
 {
     let mut channels = Vec::new(alloc);
-    channels.push(channel(alloc, 1, frames)?)?;
-    Ok(PcmSound::new(24, channels))
+    channels.push(channel(alloc, 1, depth, frames)?)?;
+    Ok(PcmSound::new(depth, channels))
 }
 
 /// Noise on two channels.
-fn stereo(alloc: Global, frames: usize) -> Result<PcmSound, Memory>
-    requires { frames < 2 ^ 60 }
+fn stereo(alloc: Global, depth: u32, frames: usize) -> Result<PcmSound, Memory>
+    requires depth { (depth ≡ 16) ⊎ (depth ≡ 24) }
+    requires frames { frames < 2 ^ 60 }
 {
     let mut channels = Vec::new(alloc);
-    channels.push(channel(alloc, 1, frames)?)?;
-    channels.push(channel(alloc, 2, frames)?)?;
-    Ok(PcmSound::new(24, channels))
+    channels.push(channel(alloc, 1, depth, frames)?)?;
+    channels.push(channel(alloc, 2, depth, frames)?)?;
+    Ok(PcmSound::new(depth, channels))
 }
 
 /// Noise on six channels.
-fn six(alloc: Global, frames: usize) -> Result<PcmSound, Memory>
-    requires { frames < 2 ^ 60 }
+fn six(alloc: Global, depth: u32, frames: usize) -> Result<PcmSound, Memory>
+    requires depth { (depth ≡ 16) ⊎ (depth ≡ 24) }
+    requires frames { frames < 2 ^ 60 }
 {
     let mut channels = Vec::new(alloc);
-    channels.push(channel(alloc, 1, frames)?)?;
-    channels.push(channel(alloc, 2, frames)?)?;
-    channels.push(channel(alloc, 3, frames)?)?;
-    channels.push(channel(alloc, 4, frames)?)?;
-    channels.push(channel(alloc, 5, frames)?)?;
-    channels.push(channel(alloc, 6, frames)?)?;
-    Ok(PcmSound::new(24, channels))
+    channels.push(channel(alloc, 1, depth, frames)?)?;
+    channels.push(channel(alloc, 2, depth, frames)?)?;
+    channels.push(channel(alloc, 3, depth, frames)?)?;
+    channels.push(channel(alloc, 4, depth, frames)?)?;
+    channels.push(channel(alloc, 5, depth, frames)?)?;
+    channels.push(channel(alloc, 6, depth, frames)?)?;
+    Ok(PcmSound::new(depth, channels))
 }
