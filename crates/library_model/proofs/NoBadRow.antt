@@ -1,7 +1,6 @@
 -- Tables whose rows pass one by one break none of the rules 1 to 7 and 9.
-use Rattle.std.proofs.Common.{◌≡◌, ◌≢◌, ◌≤◌, ◌<◌, ◌+◌, ◌==◌, ◌||◌, ◌⊎◌, inl, inr, ℕ, Bool, true, false, Option, None, Some, List, [], ◌∷◌, length, map, nat_le, nat_lt, refl, sym, ap, ◌∙◌, arith}
+use Rattle.std.proofs.Common.{◌≡◌, ◌≢◌, ◌≤◌, ◌+◌, ◌==◌, ◌||◌, inl, inr, ℕ, Bool, true, false, Option, None, List, [], ◌∷◌, length, map, nat_le, nat_lt, refl, ap, arith}
 use Rattle.std.specs.List.{AllByRecursion}
-use Rattle.std.specs.Option.{option_or}
 use Rattle.std.proofs.lemmas.Bool.Decides.{nat_tests}
 use Rattle.keeper_store.specs.Puts.{Ascends, album_less, recording_less, reply_less, segments_less}
 use Rattle.keeper_store.specs.declared.contents.Tables.{Tables}
@@ -11,7 +10,7 @@ use Rattle.keeper_store.specs.declared.row_types.SegmentRow.{SegmentRow}
 use Rattle.keeper_store.specs.declared.row_types.ReplyRow.{ReplyRow}
 use Rattle.keeper_store.proofs.Putting.{AllByRecursion-weaken}
 use Rattle.library_model.specs.declared.bad_rows.BadRow.{BadRow}
-use Rattle.library_model.specs.declared.bad_rows.RowTable.TheVariants.{Counters, Albums, Recordings, Segments, Replies}
+use Rattle.library_model.specs.declared.bad_rows.RowTable.TheVariants.{Albums, Recordings, Segments, Replies}
 use Rattle.library_model.specs.declared.limits.TheConstants.{MOST_MEMBERS}
 use Rattle.library_model.specs.InOrder.{AreInOrder, Differ, IsCounter, IsGiven, IsKeptStatus}
 use Rattle.library_model.specs.Names.{is_name, is_token}

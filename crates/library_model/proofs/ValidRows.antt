@@ -1,27 +1,21 @@
 -- The tables of a valid state break no rule.
-use Rattle.std.proofs.Common.{◌≡◌, ◌≢◌, ◌≤◌, ◌==◌, ◌⊎◌, inl, inr, ℕ, Bool, true, false, cond, Option, Some, None, List, [], ◌∷◌, length, map, filter, refl, sym, ap, ◌∙◌, subst, arith}
+use Rattle.std.proofs.Common.{◌≡◌, ◌≢◌, ◌==◌, inl, inr, ℕ, Bool, true, false, cond, Some, None, List, [], ◌∷◌, length, map, refl, sym, ap, ◌∙◌, subst, arith}
 use Rattle.std.specs.List.{AllByRecursion}
 use Rattle.std.proofs.lemmas.Bool.Decides.{nat_tests}
 use Rattle.lib_base.specs.Sounds.{IsSound}
-use Rattle.lib_base.specs.declared.files.Kind.{Kind}
 use Rattle.lib_base.specs.declared.files.Kind.TheVariants.{Wave}
 use Rattle.lib_base.specs.declared.files.Measured.{Measured}
-use Rattle.lib_base.specs.declared.files.Summary.{Summary}
-use Rattle.file_model.specs.Pcm.{Pcm}
-use Rattle.file_model.specs.Reading.{Reads, accepted}
 use Rattle.file_model.proofs.Samples.{IsDepth}
-use Rattle.keeper_store.specs.EnergyBytes.{energies_in, row_bytes}
+use Rattle.keeper_store.specs.EnergyBytes.{row_bytes}
 use Rattle.keeper_store.specs.declared.contents.Tables.{Tables}
-use Rattle.keeper_store.specs.declared.row_types.AlbumRow.{AlbumRow}
 use Rattle.keeper_store.specs.declared.row_types.RecordingRow.{RecordingRow}
-use Rattle.keeper_store.specs.declared.row_types.SegmentRow.{SegmentRow}
 use Rattle.keeper_store.proofs.EnergyRows.{energies_in-row_bytes}
 use Rattle.sound_model.specs.Albums.{IsAlbumSummary, SummarisesMeasured}
-use Rattle.sound_model.specs.Summaries.{IsWithinBounds, most_frames}
+use Rattle.sound_model.specs.Summaries.{IsWithinBounds}
 use Rattle.sound_model.proofs.MeasuredBounds.{measured_within}
 use Rattle.library_model.specs.Findings.{energies_of, kind_of, measured_of}
 use Rattle.library_model.specs.InOrder.{Differ}
-use Rattle.library_model.specs.RowRules.{IsFirstBad, IsSummedAlbum, IsSummedRecording, are_energies_of, energies_of_take, energies_rule, first_bad_row, frames_of_take, has_segments, is_depth, is_in_album, is_sound, measured_in, members_in}
+use Rattle.library_model.specs.RowRules.{IsFirstBad, IsSummedAlbum, IsSummedRecording, are_energies_of, energies_of_take, energies_rule, frames_of_take, is_depth, is_in_album, is_sound, measured_in, members_in}
 use Rattle.library_model.specs.Stands.{IsFound, IsSummed, IsValid, album_row, measured_all, members, recording_row, segment_row, segment_rows, tables_of}
 use Rattle.library_model.specs.State.{Album, Recording, State}
 use Rattle.library_model.proofs.Imports.{AllByRecursion-both, AllByRecursion-weaker}

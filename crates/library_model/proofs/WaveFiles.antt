@@ -1,12 +1,12 @@
 -- What a wave file tells of itself: its kind, and a bound of its frames.
-use Rattle.std.proofs.Common.{◌≡◌, ◌≤◌, ◌<◌, ◌*◌, ◌+◌, ◌/◌, ◌⊎◌, inl, inr, ℕ, Bool, true, false, cond, suc, zero, List, [], ◌∷◌, ◌++◌, length, length-append, refl, sym, ap, ◌∙◌, subst, arith}
+use Rattle.std.proofs.Common.{◌≡◌, ◌≤◌, ◌*◌, ◌+◌, ◌/◌, inl, inr, ℕ, Bool, true, false, cond, suc, zero, List, [], ◌∷◌, ◌++◌, length, length-append, sym, ap, ◌∙◌, subst, arith}
 use Rattle.std.specs.Prelude.{codes, nat_eq}
 use Rattle.std.specs.Cmp.Lexicographic.{pointwise}
 use Rattle.lib_base.specs.declared.files.Kind.TheVariants.{Wave}
 use Rattle.file_model.specs.Chunks.{Begins, Chunk, Placed, named_from, next_head, spelling}
 use Rattle.file_model.specs.Pcm.{Pcm, interleaved}
 use Rattle.file_model.specs.Reading.{Reads, accepted}
-use Rattle.file_model.specs.Wave.{IsWave, IsWaveOf}
+use Rattle.file_model.specs.Wave.{IsWaveOf}
 use Rattle.file_model.proofs.Interleaving.{length-interleaved}
 use Rattle.file_model.proofs.Samples.{IsDepth, length-bytes}
 use Rattle.file_model.proofs.Spellings.{length-spelling}
