@@ -6,7 +6,9 @@
 #![tactic(auto)]
 
 mod blocks;
+mod decoding;
 mod digest;
+mod ending;
 #[cfg(test)]
 mod file_tests;
 mod files;
@@ -18,5 +20,6 @@ mod rules;
 mod tests;
 
 pub use blocks::Block;
+pub use decoding::decode;
 pub use file_model::Info;
 pub use files::{FlacFile, read};
