@@ -52,7 +52,7 @@ pub is_started : (bytes : List ℕ) (info : Info) (spans : List Stored) (comment
 is_started bytes info spans comments start opening = record { blocks = opening.opened.blocks; head = opening.opened.head; says = opening.says }
 
 -- frames up to the end
-heard_whole : (info : Info) (bytes : List ℕ) (start : ℕ) (frames : List FlacFrame) → FramesUpTo info 0 (drop start bytes) frames (drop (length bytes) bytes)
+pub heard_whole : (info : Info) (bytes : List ℕ) (start : ℕ) (frames : List FlacFrame) → FramesUpTo info 0 (drop start bytes) frames (drop (length bytes) bytes)
     → FramesUpTo info 0 (drop start bytes) frames []
 heard_whole info bytes start frames goes =
     subst (λ (xs : List ℕ). FramesUpTo info 0 (drop start bytes) frames xs) (drop_all (length bytes) bytes (omega arith)) goes

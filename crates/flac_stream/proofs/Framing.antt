@@ -44,17 +44,20 @@ place_of at before = record { at = at; first = before }
 -- ---- none yet
 
 pub none_heard : (info : Info) (bytes : List ℕ) (start : ℕ) (places : List FramePlace) (digest : SoundDigest) → places ≡ [] → start ≤ length bytes → WasFed (is_asked info.md5) digest []
-    → AreHeard info bytes start start 0 places digest
-none_heard info bytes start places digest none inside fed = record {
-  frames = [];
-  goes = refl;
-  count_is = refl;
-  even = tt;
-  places_are = none;
-  end_is = refl;
-  inside = inside;
-  fed = fed;
-}
+    → (h : AreHeard info bytes start start 0 places digest) × (h.frames ≡ [])
+none_heard info bytes start places digest none inside fed = (
+  record {
+    frames = [];
+    goes = refl;
+    count_is = refl;
+    even = tt;
+    places_are = none;
+    end_is = refl;
+    inside = inside;
+    fed = fed;
+  },
+  refl,
+)
 
 -- ---- one frame more
 

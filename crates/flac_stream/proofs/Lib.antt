@@ -3,6 +3,7 @@ pub mod Endings
 pub mod Framing
 pub mod Hearing
 pub mod Infos
+pub mod Listing
 pub mod NextFrames
 pub mod Openings
 pub mod Walking

@@ -10,6 +10,10 @@ use Rattle.flac_stream.specs.Frames.{AreHeard}
 abbrev pub HaveHeard : Info → List ℕ → ℕ → ℕ → Frames → Type 0
 HaveHeard info bytes start at heard = AreHeard info bytes start at heard.count heard.places.items heard.digest
 
+-- no frame was heard yet
+abbrev pub HearNone : Info → List ℕ → ℕ → Frames → Type 0
+HearNone info bytes start heard = (h : HaveHeard info bytes start start heard) × (h.frames ≡ [])
+
 -- behind what was heard up to a place this frame was heard, up to the next one
 abbrev pub HearsMore : Info → List ℕ → ℕ → ℕ → FlacFrame → Frames → Frames → Type 0
 HearsMore info bytes at next frame old new =

@@ -80,11 +80,7 @@ fn decode_frames(
             Ok(end) => end,
             Err(refused) => return Err(refused),
         };
-        match add_block(
-            lists.as_mut_slice(),
-            scratch.cells.as_slice(),
-            end.block as usize,
-        ) {
+        match add_frame(&mut lists, scratch, end.block) {
             Ok(()) => at = end.next,
             Err(_) => return Err(Refused::Memory),
         }
@@ -103,11 +99,26 @@ fn empty_lists(alloc: Global, count: u32) -> Result<Vec<Vec<i32>>, Memory>
     Ok(lists)
 }
 
+/// Adds the channels of a frame to their lists.
+fn add_frame(lists: &mut Vec<Vec<i32>>, scratch: &Scratch, block: u32) -> Result<(), Memory>
+    requires { length lists.old.items * block ≤ length scratch.now.cells }
+    ensures { OnOk result (map (λ v. v.items) lists.new.items
+        ≡ joined (map (λ v. v.items) lists.old.items)
+        (first_chunks block (length lists.old.items) scratch.now.cells)) }
+{
+    add_block(
+        lists.as_mut_slice(),
+        scratch.cells.as_slice(),
+        block as usize,
+    )
+}
+
 /// Adds the channels of a block, which stand in the cells one after another, to their lists.
 fn add_block(lists: &mut [Vec<i32>], cells: &[i32], block: usize) -> Result<(), Memory>
     requires { length lists.old * block ≤ length cells.now }
-    ensures { OnOk result (map (λ v. v.items) lists.new ≡ joined (map (λ v. v.items) lists.old)
+    ensures joined { OnOk result (map (λ v. v.items) lists.new ≡ joined (map (λ v. v.items) lists.old)
         (first_chunks block (length lists.old) cells.now)) }
+    ensures as_many { OnOk result (length lists.new ≡ length lists.old) }
 {
     match lists.split_first_mut() {
         None => Ok(()),

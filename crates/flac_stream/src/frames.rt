@@ -5,7 +5,7 @@ ghost use Rattle.flac_frames.specs.Answers.{Answers};
 ghost use Rattle.flac_frames.specs.Frames.{frame_in};
 ghost use Rattle.flac_stream.specs.Answers.{IsRefusalOf};
 ghost use Rattle.flac_stream.specs.Frames.{bytes_for, FedFrame, IsStarted};
-ghost use Rattle.flac_stream.specs.Hearing.{HaveHeard, HearsMore};
+ghost use Rattle.flac_stream.specs.Hearing.{HaveHeard, HearNone, HearsMore};
 
 use crate::digest::SoundDigest;
 use crate::rules::breaks;
@@ -34,7 +34,7 @@ impl Frames {
     /// No frame yet.
     pub(crate) fn none(alloc: Global, info: &Info) -> Frames
         ensures heard { (bytes : List ℕ) (start : ℕ) → start ≤ length bytes
-            → HaveHeard info.now bytes start start result }
+            → HearNone info.now bytes start result }
         ensures none { result.count ≡ 0 }
     {
         let digest = SoundDigest::new(alloc, &info.md5);

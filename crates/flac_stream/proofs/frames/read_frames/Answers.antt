@@ -1,6 +1,13 @@
-use Rattle.std.proofs.Common.{◌≡◌, ◌∙◌, ℕ, length, subst, arith}
+use Rattle.std.proofs.Common.{◌≡◌, ◌∙◌, ℕ, length, refl, subst, arith}
 use Rattle.flac_stream.specs.Hearing.{HaveHeard}
 use Rattle.flac_stream.proofs.frames.read_frames.Goals as goal
+
+pub frames-init : goal.frames-init
+frames-init c = record {
+  heard = (c.none-heard.ensures.heard c.args.bytes.now c.args.start c.requires.place).0;
+  read = (let none = c.none-heard.ensures.none in omega (arith, none));
+  room = refl;
+}
 
 pub frames-preserved : goal.frames-preserved
 frames-preserved c = record {
