@@ -95,6 +95,7 @@ file_read bytes info spans comments start count places digest opening h met = re
         whole = heard_whole info bytes start h.frames h.goes;
         sounds = met;
       };
+  starts = refl;
   kept = opening.opened.kept;
   count_is = sym h.count_is;
   places_are = h.places_are;

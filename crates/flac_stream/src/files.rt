@@ -76,6 +76,13 @@ impl FlacFile {
     {
         self.sound_start
     }
+
+    /// Where each frame begins.
+    pub(crate) fn places(&self) -> &[FramePlace]
+        ensures { result.now ≡ self.now.places }
+    {
+        self.places.as_slice()
+    }
 }
 
 /// Reads a FLAC file. What is none is broken by the first rule that it breaks, at its place.

@@ -16,6 +16,7 @@ mod frames;
 mod info;
 mod opening;
 mod rules;
+mod sound;
 #[cfg(test)]
 mod tests;
 
@@ -23,3 +24,4 @@ pub use blocks::Block;
 pub use decoding::decode;
 pub use file_model::Info;
 pub use files::{FlacFile, read};
+pub use sound::FlacSound;
