@@ -2,7 +2,7 @@
 use Rattle.std.proofs.Common.{◌≡◌, ◌≤◌, ◌<◌, ◌+◌, ◌*◌, ℕ, zero, suc, List, [], ◌∷◌, ◌++◌, length, take, drop, get_or, map, replicate, Vec, Global, Ok, refl, ap, sym, ◌∙◌, subst, arith}
 use Rattle.std.specs.Prelude.{ℤ, Option}
 use Rattle.std.specs.Simd.{first_chunks}
-use Rattle.std.proofs.lemmas.List.{take_more, take_all, length_push, length-map, length-take-le, replicate_more}
+use Rattle.std.proofs.lemmas.List.{take_more, take_all, length-map, length-take-le, replicate_more}
 use Rattle.std.proofs.lemmas.List.Elements.{All-get_or}
 use Rattle.lib_base.specs.Sounds.{samples_of}
 use Rattle.file_model.specs.declared.flac_info.Info.{Info}
@@ -15,7 +15,7 @@ use Rattle.flac_stream.specs.declared.frames.Frames.{Frames}
 use Rattle.flac_stream.specs.Blocks.{IsOpening}
 use Rattle.flac_stream.specs.Hearing.{HearNone, HearsMore, joined, AreDecoded}
 use Rattle.flac_stream.proofs.Endings.{heard_whole}
-use Rattle.flac_stream.proofs.FileSounds.{IsFlac_sounds}
+use Rattle.flac_stream.proofs.FileSounds.{length-channels_in, IsFlac_sounds}
 use Rattle.flac_stream.proofs.Hearing.{length-first_chunks, channel_in-push}
 
 -- the lists of vectors
@@ -23,12 +23,6 @@ abbrev pub items_of : List (Vec ℤ Global) → List (List ℤ)
 items_of vectors = map (λ (v : Vec ℤ Global). v.items) vectors
 
 -- there are as many lists as channels
-length-channels_in : (frames : List FlacFrame) (channels : ℕ) → length (channels_in frames channels) ≡ channels
-length-channels_in frames zero = refl
-length-channels_in frames (suc channels) =
-    length_push (channels_in frames channels) (channel_in frames channels)
-    ∙ ap (λ (n : ℕ). n + 1) (length-channels_in frames channels) ∙ (let next : channels + 1 ≡ suc channels = omega arith in next)
-
 pub as_many : (info : Info) (bytes : List ℕ) (start at : ℕ) (heard : Frames) (vectors : List (Vec ℤ Global))
     → AreDecoded info bytes start at heard (items_of vectors) → length vectors ≡ info.channels
 as_many info bytes start at heard vectors d =
@@ -109,13 +103,18 @@ pub decoded_is : (bytes : List ℕ) (info : Info) (spans : List Stored) (comment
     → IsFlac bytes (record { depth = info.depth; frames = length (samples_of lists 0); lists = lists })
 decoded_is bytes info spans comments start heard lists opening d met =
     let frames = d.frames_are.frames in
-    let is_flac : IsFlac bytes (sound_in info frames) = (opening.opened.blocks, info, frames, record {
-      frame_bytes = drop start bytes;
-      head = opening.opened.head;
-      says = opening.says;
-      whole = heard_whole info bytes start frames d.frames_are.goes;
-      sounds = met;
-    }) in
+    let is_flac : IsFlac bytes (sound_in info frames) = (
+      opening.opened.blocks,
+      info,
+      frames,
+      record {
+        frame_bytes = drop start bytes;
+        head = opening.opened.head;
+        says = opening.says;
+        whole = heard_whole info bytes start frames d.frames_are.goes;
+        sounds = met;
+      },
+    ) in
     let is_sound = IsFlac_sounds bytes (sound_in info frames) is_flac in
     let long = All-get_or (λ (xs : List ℤ). length xs ≡ blocks_of frames) (channels_in frames info.channels) 0 [] is_sound.has_channel is_sound.equal in
     subst (λ (xs : List (List ℤ)). IsFlac bytes (record { depth = info.depth; frames = length (samples_of xs 0); lists = xs })) (sym d.lists_are)
