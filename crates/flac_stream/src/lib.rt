@@ -15,6 +15,8 @@ mod files;
 mod frames;
 mod info;
 mod opening;
+#[cfg(test)]
+mod ordinary_tests;
 mod rules;
 mod sound;
 #[cfg(test)]
