@@ -51,10 +51,10 @@ pub fn frames(alloc: Global, bytes: &[u8]) -> Result<u64, Refused> {
 pub fn filled(alloc: Global, bytes: &[u8]) -> Result<u64, Refused> {
     let file = read(alloc, bytes)?;
     let sound = FlacSound::over(bytes, &file);
-    let mut scratch = Scratch::new(alloc, sound.scratch_size())?;
     let mut piece = vec![in alloc; 0; PIECE]?;
     let mut sum = 0u64;
     for channel in 0..sound.channels() {
+        let mut scratch = Scratch::new(alloc, sound.scratch_size())?;
         let more = channel_sum(&sound, channel, piece.as_mut_slice(), &mut scratch);
         sum = sum.wrapping_mul(31).wrapping_add(more);
     }
