@@ -1,8 +1,10 @@
 pub mod Answers
 pub mod Blocks
 pub mod Frames
+pub mod Hearing
 pub mod Infos
 pub mod Shape
+pub mod Sounding
 pub use Rattle.bit_codec.specs.Reader
 pub use Rattle.file_model.specs.FlacFile
 pub use Rattle.file_model.specs.Reading

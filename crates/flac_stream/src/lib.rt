@@ -6,17 +6,24 @@
 #![tactic(auto)]
 
 mod blocks;
+mod decoding;
 mod digest;
+mod ending;
 #[cfg(test)]
 mod file_tests;
 mod files;
 mod frames;
 mod info;
 mod opening;
+#[cfg(test)]
+mod ordinary_tests;
 mod rules;
+mod sound;
 #[cfg(test)]
 mod tests;
 
 pub use blocks::Block;
+pub use decoding::decode;
 pub use file_model::Info;
 pub use files::{FlacFile, read};
+pub use sound::FlacSound;
