@@ -16,6 +16,8 @@ mod opening;
 mod rules;
 mod sound;
 #[cfg(test)]
+mod sound_tests;
+#[cfg(test)]
 mod tests;
 
 pub use blocks::Block;
