@@ -100,6 +100,7 @@ file_read bytes info spans comments start count places digest opening h fits sam
         whole = heard_whole info bytes start h.frames h.goes;
         sounds = both_met info h.frames (ap (is_total info.total) h.count_is ∙ fits) same;
       };
+  starts = refl;
   kept = opening.opened.kept;
   count_is = sym h.count_is;
   places_are = h.places_are;

@@ -35,7 +35,7 @@ length-channel block channels channel cells less room =
 
 -- ---- lists of frames
 
-blocks_of-cons : (frame : FlacFrame) (frames : List FlacFrame) → blocks_of (frame ∷ frames) ≡ block_of frame + blocks_of frames
+pub blocks_of-cons : (frame : FlacFrame) (frames : List FlacFrame) → blocks_of (frame ∷ frames) ≡ block_of frame + blocks_of frames
 blocks_of-cons frame frames =
     sum_by-append block_of (frame ∷ []) frames
     ∙ ap (λ (n : ℕ). n + blocks_of frames) (let one : 0 + block_of frame ≡ block_of frame = omega arith in one)
@@ -44,7 +44,7 @@ pub AreEven-push : (channels : ℕ) (frames : List FlacFrame) (frame : FlacFrame
 AreEven-push channels [] frame are is = (is, tt)
 AreEven-push channels (x ∷ xs) frame are is = (are.0, AreEven-push channels xs frame are.1 is)
 
-length-channel_in : (channels channel : ℕ) (frames : List FlacFrame) → AreEven channels frames → channel < channels
+pub length-channel_in : (channels channel : ℕ) (frames : List FlacFrame) → AreEven channels frames → channel < channels
     → length (channel_in frames channel) ≡ blocks_of frames
 length-channel_in channels channel [] are less = refl
 length-channel_in channels channel (x ∷ xs) are less =

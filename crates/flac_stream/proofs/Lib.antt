@@ -1,8 +1,11 @@
 pub mod Digests
 pub mod Endings
+pub mod FileSounds
+pub mod FrameSounds
 pub mod Framing
 pub mod Hearing
 pub mod Infos
 pub mod NextFrames
 pub mod Openings
+pub mod Sounding
 pub mod Walking

@@ -3,6 +3,7 @@ pub mod Blocks
 pub mod Frames
 pub mod Infos
 pub mod Shape
+pub mod Sounding
 pub use Rattle.bit_codec.specs.Reader
 pub use Rattle.file_model.specs.FlacFile
 pub use Rattle.file_model.specs.Reading

@@ -1,5 +1,5 @@
 -- What callers see of a FLAC file, and what reading it gives.
-use Rattle.std.specs.Prelude.{◌≡◌, ℕ, List, Option}
+use Rattle.std.specs.Prelude.{◌≡◌, ℕ, List, drop, Option}
 use Rattle.file_model.specs.declared.flac_info.Info.{Info}
 use Rattle.file_model.specs.FlacFile.{FlacBlock, IsFlacOf}
 use Rattle.file_model.specs.FlacFrame.{FlacFrame}
@@ -26,6 +26,7 @@ pub record IsReadOf (bytes : List ℕ) (file : Shape) : Type 0 where
   pub frames : List FlacFrame
   pub sound : Pcm
   pub reads : IsFlacOf bytes blocks file.info frames sound
+  pub starts : reads.frame_bytes ≡ drop file.sound_start bytes
   pub kept : AreKept bytes file.sound_start file.blocks file.comments blocks
   pub count_is : file.frames ≡ sound.frames
   pub places_are : file.places ≡ places_from file.sound_start 0 frames

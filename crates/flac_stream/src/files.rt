@@ -79,6 +79,13 @@ impl FlacFile {
     {
         self.sound_start
     }
+
+    /// Where each frame begins.
+    pub(crate) fn places(&self) -> &[FramePlace]
+        ensures { result.now ≡ self.now.places }
+    {
+        self.places.as_slice()
+    }
 }
 
 /// Reads a FLAC file. What is none is broken by the first rule that it breaks, at its place.
@@ -107,7 +114,7 @@ pub fn read(alloc: Global, bytes: &[u8]) -> Result<FlacFile, Refused>
 }
 
 /// The cells that the greatest block takes.
-fn scratch_size_for(channels: u32) -> usize
+pub(crate) fn scratch_size_for(channels: u32) -> usize
     requires { channels ≤ 8 }
     ensures { result ≡ channels * GREATEST_BLOCK }
 {

@@ -14,9 +14,13 @@ mod frames;
 mod info;
 mod opening;
 mod rules;
+mod sound;
+#[cfg(test)]
+mod sound_tests;
 #[cfg(test)]
 mod tests;
 
 pub use blocks::Block;
 pub use file_model::Info;
 pub use files::{FlacFile, read};
+pub use sound::FlacSound;
