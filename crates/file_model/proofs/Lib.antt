@@ -1,5 +1,6 @@
 pub mod BitsLemmas
 pub mod BlockPlaces
+pub mod CommentLaws
 pub mod CrcLemmas
 pub mod FieldsLemmas
 pub mod FileLaws
