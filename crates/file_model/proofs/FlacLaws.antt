@@ -327,6 +327,14 @@ breaks bytes rule place (inr (inr (inr (inr h)))) =
       ),
     )
 
+-- a FLAC file has one list of blocks
+pub one_blocks : (bytes : List ℕ) (blocks others : List FlacBlock) (info info' : Info) (frames frames' : List FlacFrame) (sound sound' : Pcm)
+    → IsFlacOf bytes blocks info frames sound → IsFlacOf bytes others info' frames' sound' → blocks ≡ others
+one_blocks bytes blocks others info info' frames frames' sound sound' h k =
+    let outcomes = Blocks_decides bytes (Ok (blocks, h.frame_bytes)) (Ok (others, k.frame_bytes)) h.head.are_blocks k.head.are_blocks in
+    let same : (blocks, h.frame_bytes) ≡ (others, k.frame_bytes) = cc in
+    ap (λ (opened : List FlacBlock × List ℕ). opened.0) same
+
 -- a FLAC file has one sound
 pub IsFlac_unique : (bytes : List ℕ) (one other : Pcm) → IsFlac bytes one → IsFlac bytes other → one ≡ other
 IsFlac_unique bytes one other (blocks, info, frames, h) (blocks', info', frames', k) =

@@ -1,6 +1,9 @@
 pub mod BitsLemmas
+pub mod BlockPlaces
+pub mod CommentLaws
 pub mod CrcLemmas
 pub mod FieldsLemmas
+pub mod FileLaws
 pub mod FlacLaws
 pub mod FrameLaws
 pub mod Interleaving
@@ -14,6 +17,7 @@ pub mod Samples
 pub mod Spellings
 pub mod Waves
 mod WorkedBits
+mod WorkedComments
 mod WorkedFields
 mod WorkedFlac
 pub mod WorkedFrames

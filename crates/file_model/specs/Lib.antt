@@ -1,8 +1,10 @@
 pub mod Bits
 pub mod Channels
 pub mod Chunks
+pub mod Comments
 pub mod Crc
 pub mod Fields
+pub mod Files
 pub mod FlacBreaks
 pub mod FlacFile
 pub mod FlacFrame

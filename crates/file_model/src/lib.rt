@@ -7,6 +7,8 @@
 #![tactic(auto)]
 
 mod bits;
+pub mod comment_fields;
+mod comment_rules;
 pub mod flac_fields;
 mod flac_info;
 mod flac_rules;
@@ -15,6 +17,7 @@ pub mod wave_fields;
 mod wave_rules;
 
 pub use bits::BitFault;
+pub use comment_rules::{CommentBreak, CommentRule, KindRule};
 pub use flac_info::Info;
 pub use flac_rules::FlacRule;
 pub use pairs::Stereo;

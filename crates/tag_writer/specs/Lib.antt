@@ -1,0 +1,2 @@
+pub mod Answers
+pub use Rattle.file_model.specs.Files
