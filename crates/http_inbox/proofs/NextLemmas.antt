@@ -27,11 +27,11 @@ use Rattle.http_inbox.specs.Nexts.{BeginsWith, FindsNext, ReadsNext, behind}
 -- What is held, then a piece of the body and what follows, is the body and then the rest of what is held.
 body_first : (held piece more : List ℕ) (size : ℕ) → length (take size held ++ piece) ≡ size
     → held ++ (piece ++ more) ≡ (take size held ++ piece) ++ (drop size held ++ more)
-body_first held [] more zero long = refl
-body_first held (b ∷ piece) more zero long = absurd (omega (arith, long))
-body_first [] piece more (suc n) long = refl
-body_first (b ∷ held) piece more (suc n) long =
-    ap (λ (l : List ℕ). b ∷ l) (body_first held piece more n (omega (arith, long)))
+body_first held [] more zero all = refl
+body_first held (b ∷ piece) more zero all = absurd (omega (arith, all))
+body_first [] piece more (suc n) all = refl
+body_first (b ∷ held) piece more (suc n) all =
+    ap (λ (l : List ℕ). b ∷ l) (body_first held piece more n (omega (arith, all)))
 
 -- A piece that leaves the body short is behind all of what is held.
 all_short : (held piece : List ℕ) (size : ℕ) → length (take size held ++ piece) < size → length (held ++ piece) < size
@@ -39,15 +39,15 @@ all_short held piece size short =
     omega (arith, short, length-append (take size held) piece, length-append held piece, length-take size held)
 
 -- The body is all there.
-pub body_framed : (held piece : List ℕ) (heading : Heading) (head : RequestHead) (size : ℕ) (body : List ℕ)
+body_framed : (held piece : List ℕ) (heading : Heading) (head : RequestHead) (size : ℕ) (body : List ℕ)
     → IsHeadingOf held heading head → extent head ≡ long size → body ≡ take size (drop heading.len held) ++ piece
     → length (take size (drop heading.len held) ++ piece) ≡ size
     → BeginsWith (held ++ piece) held (record { heading = heading; body = body })
-body_framed held piece heading head size body lies sized is long =
-    let sizes : length body ≡ size = ap length is ∙ long in
+body_framed held piece heading head size body lies sized is all =
+    let sizes : length body ≡ size = ap length is ∙ all in
     let split : (more : List ℕ) → drop heading.len held ++ (piece ++ more) ≡ body ++ (drop (heading.len + length body) held ++ more) =
     λ more.
-    body_first (drop heading.len held) piece more size long
+    body_first (drop heading.len held) piece more size all
     ∙ ap (λ (l : List ℕ). l ++ (drop size (drop heading.len held) ++ more)) (sym is)
     ∙ ap (λ (l : List ℕ). body ++ (l ++ more)) (drop-drop size heading.len held ∙ ap (λ (n : ℕ). drop (heading.len + n) held) (sym sizes)) in
     record {
@@ -63,7 +63,7 @@ body_framed held piece heading head size body lies sized is long =
     }
 
 -- The body passes the end of what is there.
-pub body_short : (held piece : List ℕ) (heading : Heading) (head : RequestHead) (size : ℕ)
+body_short : (held piece : List ℕ) (heading : Heading) (head : RequestHead) (size : ℕ)
     → IsHeadingOf held heading head → extent head ≡ long size
     → length (take size (drop heading.len held) ++ piece) < size → IsUnframeable (held ++ piece) Frame
 body_short held piece heading head size lies sized short =
@@ -77,48 +77,45 @@ body_short held piece heading head size lies sized short =
     } in
     inr (inr (cut, refl))
 
--- What reading a body found, the next request is found as.
-pub next_whole : (old new : SourceView) (held : List ℕ) (heading : Heading) (head : RequestHead) (size : ℕ) (body : List ℕ)
-    → IsHeadingOf held heading head → extent head ≡ long size
-    → ReadsBody old new (take size (drop heading.len held)) size (found_body.Whole body)
+-- Where reading found the body, the request is framed.
+pub next_whole : (old new : SourceView) (held rest : List ℕ) (heading : Heading) (head : RequestHead) (size : ℕ) (body : List ℕ)
+    → IsHeadingOf held heading head → extent head ≡ long size → rest ≡ drop heading.len held
+    → ReadsBody old new (take size rest) size (found_body.Whole body)
     → ReadsNext old new held held (Framed (record { heading = heading; body = body }))
-next_whole old new held heading head size body lies sized reads = record {
-  taken = reads.piece;
-  content = reads.content;
-  found = body_framed held reads.piece heading head size body lies sized reads.found.0 reads.found.1;
-  faults = record { later = reads.faults.later; cause = λ is. absurd (cc is) };
-}
+next_whole old new held rest heading head size body lies sized is reads =
+    let whole = subst (λ (l : List ℕ). (body ≡ take size l ++ reads.piece) × (length (take size l ++ reads.piece) ≡ size)) is reads.found in
+    record {
+      taken = reads.piece;
+      content = reads.content;
+      found = body_framed held reads.piece heading head size body lies sized whole.0 whole.1;
+      faults = record { later = reads.faults.later; cause = λ e. absurd (cc e) };
+    }
 
-pub next_cut : (old new : SourceView) (held : List ℕ) (heading : Heading) (head : RequestHead) (size : ℕ)
-    → IsHeadingOf held heading head → extent head ≡ long size
-    → ReadsBody old new (take size (drop heading.len held)) size found_body.Cut
-    → ReadsNext old new held held (Refused Frame)
-next_cut old new held heading head size lies sized reads = record {
-  taken = reads.piece;
-  content = reads.content;
-  found = inl (reads.found.0, body_short held reads.piece heading head size lies sized reads.found.1);
-  faults = record { later = reads.faults.later; cause = λ is. absurd (cc is) };
-}
+-- Where it found the source's end, none is.
+pub next_cut : (old new : SourceView) (held rest : List ℕ) (heading : Heading) (head : RequestHead) (size : ℕ)
+    → IsHeadingOf held heading head → extent head ≡ long size → rest ≡ drop heading.len held
+    → ReadsBody old new (take size rest) size found_body.Cut → ReadsNext old new held held (Refused Frame)
+next_cut old new held rest heading head size lies sized is reads =
+    let short = subst (λ (l : List ℕ). length (take size l ++ reads.piece) < size) is reads.found.1 in
+    record {
+      taken = reads.piece;
+      content = reads.content;
+      found = inl (reads.found.0, body_short held reads.piece heading head size lies sized short);
+      faults = record { later = reads.faults.later; cause = λ e. absurd (cc e) };
+    }
 
-pub next_broken : (old new : SourceView) (held : List ℕ) (heading : Heading) (head : RequestHead) (size : ℕ)
-    → IsHeadingOf held heading head → extent head ≡ long size
-    → ReadsBody old new (take size (drop heading.len held)) size found_body.Fault
-    → ReadsNext old new held held Fault
-next_broken old new held heading head size lies sized reads = record {
-  taken = reads.piece;
-  content = reads.content;
-  found = inr (body_short held reads.piece heading head size lies sized reads.found);
-  faults = record { later = reads.faults.later; cause = λ is. reads.faults.cause refl };
-}
-
-pub next_wanting : (old new : SourceView) (there held : List ℕ) (size : ℕ)
-    → ReadsBody old new there size found_body.Memory → ReadsNext old new held held Memory
-next_wanting old new there held size reads = record {
-  taken = reads.piece;
-  content = reads.content;
-  found = tt;
-  faults = record { later = reads.faults.later; cause = λ is. absurd (cc is) };
-}
+-- Where a read failed, what was taken has no whole body.
+pub next_broken : (old new : SourceView) (held rest : List ℕ) (heading : Heading) (head : RequestHead) (size : ℕ)
+    → IsHeadingOf held heading head → extent head ≡ long size → rest ≡ drop heading.len held
+    → ReadsBody old new (take size rest) size found_body.Fault → ReadsNext old new held held Fault
+next_broken old new held rest heading head size lies sized is reads =
+    let short = subst (λ (l : List ℕ). length (take size l ++ reads.piece) < size) is reads.found in
+    record {
+      taken = reads.piece;
+      content = reads.content;
+      found = inr (body_short held reads.piece heading head size lies sized short);
+      faults = record { later = reads.faults.later; cause = λ e. reads.faults.cause refl };
+    }
 
 -- What a head refuses is refused however it goes on.
 pub next_refused : (v : SourceView) (held : List ℕ) (heading : Heading) (head : RequestHead) (cause : FramingRefusal)
@@ -168,11 +165,7 @@ without_head old new before now end next reads found same = record {
   faults = record { later = reads.faults.later; cause = λ is. reads.faults.cause (same is) };
 }
 
-pub next_ended : (old new : SourceView) (before now : List ℕ)
-    → ReadsHead old new before now found_head.Ended → ReadsNext old new before now Ended
-next_ended old new before now reads =
-    without_head old new before now found_head.Ended Ended reads reads.found (λ is. absurd (cc is))
-
+-- No head was found.
 pub next_no_head : (old new : SourceView) (before now : List ℕ)
     → ReadsHead old new before now found_head.NoHead → ReadsNext old new before now (Refused Frame)
 next_no_head old new before now reads =
@@ -186,6 +179,7 @@ next_no_head old new before now reads =
     covers (inl x) = inl (x.0, inl (reads.found.0, x.1, refl))
     covers (inr never) = inr (λ more. inl (some now more reads.found.0, never more, refl))
 
+-- A read failed before there was a head.
 pub next_fault : (old new : SourceView) (before now : List ℕ)
     → ReadsHead old new before now found_head.Fault → ReadsNext old new before now Fault
 next_fault old new before now reads =
