@@ -117,6 +117,16 @@ next_broken old new held rest heading head size lies sized is reads =
       faults = record { later = reads.faults.later; cause = λ e. reads.faults.cause refl };
     }
 
+-- Where the memory for the body is not to be had, all that was taken is held.
+pub next_wanting : (old new : SourceView) (there held : List ℕ) (size : ℕ)
+    → ReadsBody old new there size found_body.Memory → ReadsNext old new held held Memory
+next_wanting old new there held size reads = record {
+  taken = reads.piece;
+  content = reads.content;
+  found = ap (λ (l : List ℕ). held ++ l) (reads.untouched refl) ∙ append-nil held;
+  faults = record { later = reads.faults.later; cause = λ e. absurd (cc e) };
+}
+
 -- What a head refuses is refused however it goes on.
 pub next_refused : (v : SourceView) (held : List ℕ) (heading : Heading) (head : RequestHead) (cause : FramingRefusal)
     → IsHeadingOf held heading head → refused cause ≡ extent head → ReadsNext v v held held (Refused cause)

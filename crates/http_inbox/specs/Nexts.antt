@@ -1,5 +1,5 @@
 -- What is found where the next request is looked for.
-use Rattle.std.specs.Prelude.{◌≡◌, ◌⊎◌, ◌+◌, ℕ, List, [], ◌++◌, length, drop, Option, ⊤}
+use Rattle.std.specs.Prelude.{◌≡◌, ◌⊎◌, ◌+◌, ℕ, List, [], ◌++◌, length, drop, Option}
 use Rattle.std.specs.Io.KnownBytes.{Consumes, IsAtEnd}
 use Rattle.httparse.specs.Grammar.{RequestHead}
 use Rattle.lib_base.specs.Faults.{CountsFault}
@@ -25,13 +25,13 @@ pub record BeginsWith (bytes inbox : List ℕ) (request : Request) : Type 0 wher
       → Frames (bytes ++ more) (record { head = head; body = request.body }) (behind inbox request ++ more)
 
 -- What is found of these bytes, of which the inbox holds the front. A fault comes where they are none, or can't be framed as
--- they are.
+-- they are. Want of memory leaves them all in the inbox.
 abbrev pub FindsNext : Option (List ℕ) → List ℕ → List ℕ → Next → Type 0
 FindsNext left bytes inbox Ended = (bytes ≡ []) × IsAtEnd left
 FindsNext left bytes inbox (Framed request) = BeginsWith bytes inbox request
 FindsNext left bytes inbox (Refused cause) = Covers left bytes (λ b. IsUnframeable b cause)
 FindsNext left bytes inbox Fault = (bytes ≡ []) ⊎ IsUnframeable bytes Frame
-FindsNext left bytes inbox Memory = ⊤
+FindsNext left bytes inbox Memory = bytes ≡ inbox
 
 -- The next request was looked for in what the inbox held and in what was taken from the source.
 pub record ReadsNext (old new : SourceView) (before now : List ℕ) (next : Next) : Type 0 where

@@ -57,12 +57,7 @@ fn read_rest<S: Source>(source: &mut S, mut body: Vec<u8>, size: usize) -> BodyR
 }
 
 /// Reads until there are so many bytes, at most as many at a time as there are zeros.
-fn read_until<S: Source>(
-    source: &mut S,
-    zeros: &[u8],
-    body: &mut Vec<u8>,
-    size: usize,
-) -> ReadEnd
+fn read_until<S: Source>(source: &mut S, zeros: &[u8], body: &mut Vec<u8>, size: usize) -> ReadEnd
     requires some { 0 < length zeros.now }
     requires within { length body.old.items ≤ size }
     requires room { size ≤ vec_capacity body.old }

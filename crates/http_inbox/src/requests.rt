@@ -31,7 +31,7 @@ pub enum Next {
     Refused(FramingRefusal),
     /// A read failed.
     Fault,
-    /// The memory for the body is not to be had.
+    /// The memory for the body is not to be had. All that was read is in the inbox.
     Memory,
 }
 
