@@ -5,6 +5,7 @@ use lib_base::{Failed, Source};
 use std::alloc::{AllocError, Global};
 
 /// The bytes of a request, so many times, in pieces of at most so many bytes.
+#[derive(Drop)]
 pub struct Rounds {
     bytes: Vec<u8>,
     at: usize,

@@ -1,16 +1,10 @@
 -- What was there of a body, and what was drawn behind it.
-use Rattle.std.proofs.Common.{◌≡◌, ◌≤◌, ◌<◌, ℕ, ◌+◌, ◌-◌, List, [], ◌++◌, length, take, drop, refl, sym, ap, ◌∙◌, subst, arith, append_assoc, append-nil, length-append, length-take, length-drop, take-add}
+use Rattle.std.proofs.Common.{◌≡◌, ◌≤◌, ℕ, ◌+◌, List, ◌++◌, length, take, drop, sym, ap, ◌∙◌, subst, arith, length-append, length-take, length-drop, take-add}
 use Rattle.std.proofs.Math.Seq.{take-append_seam}
-use Rattle.lib_base.specs.Faults.{CountsFault, Rose}
 use Rattle.lib_base.specs.Sources.{SourceView}
 use Rattle.lib_base.specs.declared.sources.ReadEnd.{ReadEnd}
-use Rattle.lib_base.specs.declared.sources.ReadEnd.TheVariants as read
 use Rattle.http_inbox.specs.Filling.{Fills}
-use Rattle.http_inbox.specs.declared.bodies.BodyRead.{BodyRead}
-use Rattle.http_inbox.specs.declared.bodies.BodyRead.TheVariants.{Whole, Cut, Fault, Memory}
-use Rattle.http_inbox.specs.Bodies.{DrawsUpTo, ReadsBody}
-use Rattle.http_inbox.specs.Inboxes.{Draws}
-use Rattle.http_inbox.proofs.InboxLemmas.{Draws-then}
+use Rattle.http_inbox.specs.Bodies.{DrawsUpTo}
 
 -- What was filled behind bytes was drawn to there.
 filled : (old new : SourceView) (before zeros into : List ℕ) (count : ℕ) (end : ReadEnd)

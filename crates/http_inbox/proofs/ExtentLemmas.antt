@@ -1,11 +1,9 @@
 -- What the header lines of a head say of its body.
-use Rattle.std.proofs.Common.{◌≡◌, ℕ, suc, ◌+◌, ◌-◌, ◌*◌, ◌<◌, ◌≤◌, Bool, true, false, Option, Some, None, List, [], ◌∷◌, length, drop, get_or, if◌then◌else◌, refl, sym, ap, ◌∙◌, subst, arith, add-one, drop-cons}
+use Rattle.std.proofs.Common.{◌≡◌, ℕ, suc, ◌+◌, ◌-◌, ◌*◌, ◌<◌, ◌≤◌, true, false, Option, Some, None, List, ◌∷◌, length, drop, get_or, if◌then◌else◌, arith, add-one, drop-cons}
 use Rattle.std.specs.Char.{is_ascii_digit}
 use Rattle.std.specs.Str.{all_ascii_digits}
-use Rattle.std.specs.Str.Parse.{digits_value, digits_value_after}
+use Rattle.std.specs.Str.Parse.{digits_value_after}
 use Rattle.std.proofs.lemmas.Grind.{common_steps}
-use Rattle.http_model.specs.declared.refusals.FramingRefusal.TheVariants.{Frame}
-use Rattle.http_model.specs.Requests.{Extent, refused, extent_by, is_size, limited}
 use Rattle.http_inbox.specs.Extents.{size_written}
 
 -- the number of the digits behind those of a number

@@ -1,26 +1,23 @@
 -- What is found behind a head, and of the next request.
-use Rattle.std.proofs.Common.{◌≡◌, ◌≢◌, ◌≤◌, ◌<◌, ◌⊎◌, ℕ, suc, zero, ◌+◌, ◌-◌, min, inl, inr, Option, List, [], ◌∷◌, ◌++◌, length, take, drop, refl, sym, ap, ◌∙◌, subst, arith, append_assoc, append-nil, length-append, length-take, drop-drop, take_all}
-use Rattle.std.specs.Io.KnownBytes.{Consumes, IsAtEnd}
+use Rattle.std.proofs.Common.{◌≡◌, ◌≢◌, ◌≤◌, ◌<◌, ◌⊎◌, ℕ, suc, zero, ◌+◌, inl, inr, Option, List, [], ◌∷◌, ◌++◌, length, take, drop, refl, sym, ap, ◌∙◌, subst, arith, append_assoc, append-nil, length-append, length-take, drop-drop}
 use Rattle.std.proofs.KnownBytes.{Consumes-nil, Consumes-trans}
 use Rattle.httparse.specs.Grammar.{RequestHead}
-use Rattle.lib_base.specs.Faults.{CountsFault, Rose}
+use Rattle.lib_base.specs.Faults.{Rose}
 use Rattle.lib_base.specs.Sources.{SourceView}
 use Rattle.http_model.specs.declared.refusals.FramingRefusal.{FramingRefusal}
 use Rattle.http_model.specs.declared.refusals.FramingRefusal.TheVariants.{Frame}
-use Rattle.http_model.specs.Requests.{HeadAt, HasNoHead, Extent, refused, long, extent, Frames, IsRefused, IsCut, IsUnframeable}
+use Rattle.http_model.specs.Requests.{HeadAt, HasNoHead, refused, long, extent, IsRefused, IsCut, IsUnframeable}
 use Rattle.http_model.proofs.RequestLaws.{HeadAt-append, IsRefused-append}
 use Rattle.http_inbox.specs.declared.heads.Heading.{Heading}
 use Rattle.http_inbox.specs.declared.inbox.HeadRead.{HeadRead}
 use Rattle.http_inbox.specs.declared.inbox.HeadRead.TheVariants as found_head
-use Rattle.http_inbox.specs.declared.bodies.BodyRead.{BodyRead}
 use Rattle.http_inbox.specs.declared.bodies.BodyRead.TheVariants as found_body
-use Rattle.http_inbox.specs.declared.requests.Request.{Request}
 use Rattle.http_inbox.specs.declared.requests.Next.{Next}
-use Rattle.http_inbox.specs.declared.requests.Next.TheVariants.{Ended, Framed, Refused, Fault, Memory}
+use Rattle.http_inbox.specs.declared.requests.Next.TheVariants.{Framed, Refused, Fault, Memory}
 use Rattle.http_inbox.specs.Bodies.{ReadsBody}
 use Rattle.http_inbox.specs.Heads.{IsHeadingOf}
 use Rattle.http_inbox.specs.Inboxes.{Covers, Draws, ReadsHead}
-use Rattle.http_inbox.specs.Nexts.{BeginsWith, FindsNext, ReadsNext, behind}
+use Rattle.http_inbox.specs.Nexts.{BeginsWith, FindsNext, ReadsNext}
 
 -- ---- a body
 

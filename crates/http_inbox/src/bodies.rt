@@ -11,6 +11,7 @@ use std::alloc::Global;
 const PIECE: usize = 65_536;
 
 /// What reading a body found.
+#[derive(Drop)]
 pub enum BodyRead {
     /// The body.
     Whole(Bytes),

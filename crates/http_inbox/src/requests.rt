@@ -21,6 +21,7 @@ pub struct Request {
 }
 
 /// What is found where the next request is looked for.
+#[derive(Drop)]
 pub enum Next {
     /// No byte is there, and the source is at its end.
     Ended,

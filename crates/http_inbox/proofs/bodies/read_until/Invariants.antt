@@ -1,4 +1,4 @@
-use Rattle.std.proofs.Common.{◌≡◌, ◌≤◌, ◌-◌, length, vec_capacity}
+use Rattle.std.proofs.Common.{◌≤◌, ◌-◌, length, vec_capacity}
 use Rattle.http_inbox.specs.Inboxes.{Draws}
 use Rattle.http_inbox.proofs.bodies.read_until.Given as goal
 

@@ -1,4 +1,4 @@
-use Rattle.std.proofs.Common.{◌≡◌, ◌^◌, ◌≤◌, ◌<◌, rules, arith}
+use Rattle.std.proofs.Common.{◌^◌, ◌≤◌, rules, arith}
 use Rattle.std.proofs.Math.Nat.{pow-le-pow_right}
 use Rattle.http_inbox.proofs.extents.size_of.Goals as goal
 
