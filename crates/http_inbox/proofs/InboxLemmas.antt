@@ -1,13 +1,13 @@
 -- What is drawn from a source piece by piece.
-use Rattle.std.proofs.Common.{◌≡◌, ◌≢◌, ◌≤◌, ◌<◌, ℕ, ◌+◌, ◌-◌, inl, inr, Option, Some, None, Result, Ok, Err, List, [], ◌∷◌, ◌++◌, length, take, drop, refl, sym, ap, ◌∙◌, subst, arith, append_assoc, append-nil, length-append, length-take, length-drop}
+use Rattle.std.proofs.Common.{◌≡◌, ◌≢◌, ◌≤◌, ◌<◌, ℕ, ◌+◌, inl, inr, Some, None, Ok, Err, List, [], ◌∷◌, ◌++◌, length, take, drop, refl, sym, ap, ◌∙◌, subst, arith, append_assoc, append-nil, length-append, length-take, length-drop}
 use Rattle.std.proofs.Math.Seq.{take-add}
-use Rattle.std.specs.Io.KnownBytes.{Consumes, IsAtEnd, Keeps}
+use Rattle.std.specs.Io.KnownBytes.{IsAtEnd}
 use Rattle.std.proofs.KnownBytes.{Consumes-nil, Consumes-kept, Consumes-trans}
-use Rattle.lib_base.specs.Faults.{CountsFault, Rose}
+use Rattle.lib_base.specs.Faults.{Rose}
 use Rattle.lib_base.specs.Sources.{SourceView, Reads}
 use Rattle.http_model.specs.Requests.{HasNoHead, head_limit}
 use Rattle.http_inbox.specs.declared.inbox.HeadRead.{HeadRead}
-use Rattle.http_inbox.specs.declared.inbox.HeadRead.TheVariants.{Ended, Head, NoHead, Fault}
+use Rattle.http_inbox.specs.declared.inbox.HeadRead.TheVariants.{Fault}
 use Rattle.http_inbox.specs.Inboxes.{Draws, DrawsPiece, Finds, FindsAtEnd, TriesHead, ReadsHead}
 
 -- Nothing was drawn.

@@ -1,4 +1,7 @@
+pub mod BodyLemmas
+pub mod ExtentLemmas
 pub mod FieldLemmas
 pub mod FillLemmas
 pub mod HeadLemmas
 pub mod InboxLemmas
+pub mod NextLemmas

@@ -1,5 +1,5 @@
 //! The bytes that were taken from a source and are not used.
-ghost use Rattle.std.specs.Prelude.{◌≡◌, ◌≤◌, ◌<◌, length, drop, IfOk, [], vec_capacity};
+ghost use Rattle.std.specs.Prelude.{◌≡◌, ◌≤◌, ◌<◌, ◌+◌, length, drop, IfOk, [], vec_capacity};
 ghost use Rattle.http_model.specs.Requests.{HasNoHead, head_limit};
 ghost use Rattle.http_inbox.specs.Inboxes.{DrawsPiece, FindsAtEnd, ReadsHead, TriesHead};
 
@@ -71,6 +71,23 @@ impl Inbox {
                 return read;
             }
         }
+    }
+
+    /// Lets the request of that heading go, whose body has `size` bytes: what follows it stays, and
+    /// moves to the front.
+    pub fn pass(&mut self, heading: &Heading, size: usize)
+        ensures { self.new ≡ drop (heading.now.len + size) self.old }
+    {
+        self.let_go(heading.len.saturating_add(size).min(self.count));
+    }
+
+    /// Lets so many of the bytes go from the front.
+    fn let_go(&mut self, count: usize)
+        requires { count ≤ length self.old }
+        ensures { self.new ≡ drop count self.old }
+    {
+        self.room.copy_within(count..self.count, 0);
+        self.count -= count;
     }
 
     /// Looks for a head, and reads one piece where none is there as yet.

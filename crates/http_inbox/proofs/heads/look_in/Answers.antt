@@ -1,5 +1,5 @@
 use Rattle.std.proofs.Common.{◌∙◌, length}
-use Rattle.http_inbox.proofs.HeadLemmas.{heading_found, HasNoHead-overflow, HasNoHead-partial}
+use Rattle.http_inbox.proofs.HeadLemmas.{heading_found, HasNoHead-overflow}
 use Rattle.http_inbox.proofs.heads.look_in.Goals as goal
 
 pub returns-in-Complete : goal.returns-in-Complete

@@ -1,4 +1,4 @@
-use Rattle.std.proofs.Common.{◌≡◌, ◌≤◌, ◌-◌, ℕ, length}
+use Rattle.std.proofs.Common.{◌≤◌, ◌-◌, length}
 use Rattle.http_model.specs.Requests.{head_limit}
 use Rattle.http_inbox.specs.Inboxes.{Draws}
 use Rattle.http_inbox.proofs.inbox.Inbox.read_head.Given as goal

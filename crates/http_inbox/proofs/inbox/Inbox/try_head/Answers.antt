@@ -1,4 +1,4 @@
-use Rattle.std.proofs.Common.{◌≡◌, ◌≢◌, ℕ, inr, List, [], ◌++◌, subst}
+use Rattle.std.proofs.Common.{◌≢◌, ℕ, inr, List, [], ◌++◌, subst}
 use Rattle.httparse.specs.Grammar.{RequestHead}
 use Rattle.http_model.specs.Requests.{HasNoHead}
 use Rattle.http_inbox.specs.Heads.{IsHeadingOf}
