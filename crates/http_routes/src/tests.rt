@@ -50,7 +50,7 @@ fn routes_have_methods(rt: HostRuntime) -> Result<(), Fail> {
         assert_eq!(rt; route.allowed(), allowed, "{route:?}");
         for method in ["GET", "POST", "PUT", "DELETE", "PATCH", "HEAD", "get", ""] {
             let has = !method.is_empty() && allowed.contains(method);
-            assert_eq!(rt; route.has_method(method), has, "{route:?} {method}");
+            assert_eq!(rt; route.has_method(method.as_bytes()), has, "{route:?} {method}");
         }
     }
     Ok(())
