@@ -9,8 +9,6 @@ mod asking;
 mod fields;
 mod marks;
 mod wanting;
-#[cfg(test)]
-mod tests;
 
 pub use asking::{Asking, ask_for};
 pub use fields::{Field, field_of, name_asked, token_asked};
