@@ -1,21 +1,28 @@
 //! What a request asks, found without memory.
-ghost use Rattle.std.specs.Prelude.{◌≡◌, codes, Some};
+ghost use Rattle.std.specs.Prelude.{◌≡◌, codes, Some, []};
 ghost use Rattle.std.specs.Str.{bytes_eq};
 ghost use Rattle.http_inbox.specs.Heads.{IsHeadingOf};
-ghost use Rattle.http_model.specs.Asking.{asked_if, asked_of, changing, mark_asked, question_about, question_by};
+ghost use Rattle.http_model.specs.Asking.{allowed_if, allows_of, asked_if, asked_of, changing, mark_asked, question_about, question_by};
+ghost use Rattle.http_model.specs.Asking as wish;
+ghost use Rattle.http_model.specs.Refusals.{asking_refusal};
 ghost use Rattle.http_model.specs.Requests.{Framed};
-ghost use Rattle.http_asking.specs.Asked.{said, HasHeading};
+ghost use Rattle.http_asking.specs.Asked.{allowed_by, said, HasHeading};
 
 use crate::fields::{field_of, name_marked, token_asked};
 use crate::marks::mark_of;
 use http_inbox::Heading;
 use http_model::{AskingRefusal, Question};
-use http_routes::{Paths, Resource};
+use http_routes::{Paths, Resource, Route};
 
 /// What a request asks.
+#[derive(Clone, Copy)]
 pub enum Asking<'a> {
-    /// Nothing that there is, for that cause.
-    Refused(AskingRefusal),
+    /// It is refused for that cause. A reply to a method that the route has not names those that it
+    /// has.
+    Refused {
+        cause: AskingRefusal,
+        allows: Option<Route>,
+    },
     Question(Question),
     /// A change. `wanted` makes its command, or finds a name or a body that breaks its form.
     Change {
@@ -29,33 +36,46 @@ pub enum Asking<'a> {
 /// body. It takes no memory.
 pub fn ask_for<'a>(paths: &Paths, bytes: &'a [u8], heading: &Heading, body: &[u8]) -> Asking<'a>
     requires { HasHeading bytes.now heading.now }
-    ensures { (q : Framed) → IsHeadingOf bytes.now heading.now q.head → body.now ≡ q.body
+    ensures says { (q : Framed) → IsHeadingOf bytes.now heading.now q.head → body.now ≡ q.body
         → said result q ≡ asked_of q }
+    ensures allows { (q : Framed) → IsHeadingOf bytes.now heading.now q.head
+        → allowed_by result ≡ allows_of q }
 {
     match paths.resource(heading.target.of(bytes)) {
         Some(resource) => ask_at(resource, bytes, heading, body),
-        None => Asking::Refused(AskingRefusal::NoRoute),
+        None => refused(AskingRefusal::NoRoute),
     }
 }
 
 /// What is asked at what the target names.
-fn ask_at<'a>(
-    resource: Resource,
-    bytes: &'a [u8],
-    heading: &Heading,
-    body: &[u8],
-) -> Asking<'a>
+fn ask_at<'a>(resource: Resource, bytes: &'a [u8], heading: &Heading, body: &[u8]) -> Asking<'a>
     requires { HasHeading bytes.now heading.now }
-    ensures { (q : Framed) → IsHeadingOf bytes.now heading.now q.head → body.now ≡ q.body
+    ensures says { (q : Framed) → IsHeadingOf bytes.now heading.now q.head → body.now ≡ q.body
         → said result q ≡ asked_if q (Some resource) }
+    ensures allows { (q : Framed) → IsHeadingOf bytes.now heading.now q.head
+        → allowed_by result ≡ allowed_if q.head.method (Some resource) }
 {
     let method = heading.method.of(bytes);
     if !resource.route().has_method(method) {
-        return Asking::Refused(AskingRefusal::Method);
+        return Asking::Refused {
+            cause: AskingRefusal::Method,
+            allows: Some(resource.route()),
+        };
     }
     match question_by(method, resource) {
         Some(question) => Asking::Question(question),
         None => change_at(resource, bytes, heading, body),
+    }
+}
+
+/// What is refused for a cause for which no methods are named.
+fn refused(cause: AskingRefusal) -> Asking<'static>
+    ensures says { (q : Framed) → said result q ≡ wish.refused (asking_refusal cause) }
+    ensures allows { allowed_by result ≡ [] }
+{
+    Asking::Refused {
+        cause,
+        allows: None,
     }
 }
 
@@ -91,15 +111,11 @@ fn question_about(resource: Resource) -> Option<Question>
 }
 
 /// The change that is asked at what the target names.
-fn change_at<'a>(
-    resource: Resource,
-    bytes: &'a [u8],
-    heading: &Heading,
-    body: &[u8],
-) -> Asking<'a>
+fn change_at<'a>(resource: Resource, bytes: &'a [u8], heading: &Heading, body: &[u8]) -> Asking<'a>
     requires { HasHeading bytes.now heading.now }
-    ensures { (q : Framed) → IsHeadingOf bytes.now heading.now q.head → body.now ≡ q.body
+    ensures says { (q : Framed) → IsHeadingOf bytes.now heading.now q.head → body.now ≡ q.body
         → said result q ≡ changing q resource }
+    ensures allows { allowed_by result ≡ [] }
 {
     match token_asked(field_of(bytes, heading.token)) {
         Some(token) => Asking::Change {
@@ -107,7 +123,7 @@ fn change_at<'a>(
             mark: mark_asked(bytes, heading, body),
             resource,
         },
-        None => Asking::Refused(AskingRefusal::Token),
+        None => refused(AskingRefusal::Token),
     }
 }
 

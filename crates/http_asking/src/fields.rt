@@ -35,7 +35,7 @@ pub fn field_of(bytes: &[u8], span: FieldSpan) -> Field<'_>
 
 /// The token that the lines `Request-Token` give: the value of the only one, where it is a token.
 pub fn token_asked(token: Field<'_>) -> Option<&str>
-    ensures { (values : List (List ℕ)) → IsField token values
+    ensures { (values : List (List ℕ)) → IsField token.entry values
         → option_map (λ token. token.now) result ≡ token_in values }
 {
     match token {
@@ -62,7 +62,7 @@ fn if_token(text: &str) -> Option<&str>
 /// What the lines `Recording-Name` give to the mark: the value of the only one, whatever it is, and
 /// else nothing.
 pub(crate) fn name_marked(name: Field<'_>) -> &[u8]
-    ensures { (values : List (List ℕ)) → IsField name values → result.now ≡ name_marked values }
+    ensures { (values : List (List ℕ)) → IsField name.entry values → result.now ≡ name_marked values }
 {
     match name {
         Field::Value(text) => text,
@@ -73,7 +73,7 @@ pub(crate) fn name_marked(name: Field<'_>) -> &[u8]
 /// The name that the lines `Recording-Name` give a recording: the empty one where there is no line,
 /// the value of the only one, where it is a name, and else none.
 pub fn name_asked(alloc: Global, name: Field<'_>) -> Result<Option<Text>, Memory>
-    ensures { IfOk result (λ given. (values : List (List ℕ)) → IsField name values → given ≡ name_given values) }
+    ensures { IfOk result (λ given. (values : List (List ℕ)) → IsField name.entry values → given ≡ name_given values) }
 {
     match name {
         Field::Absent => Ok(Some(Text::of(String::new(alloc)))),

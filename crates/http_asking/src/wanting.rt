@@ -55,7 +55,7 @@ fn wanted_at(
     name: Field<'_>,
     body: Bytes,
 ) -> Result<Wanted, Memory>
-    ensures { IfOk result (λ wanted. (values : List (List ℕ)) → IsField name values
+    ensures { IfOk result (λ wanted. (values : List (List ℕ)) → IsField name.entry values
         → wanted ≡ model.wanted_at resource values body) }
 {
     match resource {
@@ -101,7 +101,7 @@ fn import(
     name: Field<'_>,
     bytes: Bytes,
 ) -> Result<Wanted, Memory>
-    ensures { IfOk result (λ wanted. (values : List (List ℕ)) → IsField name values
+    ensures { IfOk result (λ wanted. (values : List (List ℕ)) → IsField name.entry values
         → wanted ≡ model.import_wanted album values bytes) }
 {
     match name_asked(alloc, name)? {

@@ -7,11 +7,13 @@ use Rattle.httparse.specs.Grammar.{RequestHead, Field, crlf}
 use Rattle.matchit.proofs.OnLiterals.{matchit_on_literals}
 use Rattle.md5.specs.Md5.{block_words, rounds, compress, hash_after, digest_bytes, md5}
 use Rattle.serde_json.proofs.OnLiterals.{serde_json_on_literals}
+use Rattle.http_routes.specs.Ids.{is_id}
 use Rattle.http_model.specs.declared.refusals.AskingRefusal.TheVariants.{NoRoute, Method, Token, Name, Body}
 use Rattle.http_model.specs.declared.wishes.Command.TheVariants.{NewAlbum, Import, Retake, Regroup, RemoveRecording, RemoveAlbum}
 use Rattle.http_model.specs.declared.wishes.Question.TheVariants as about
 use Rattle.http_model.specs.declared.wishes.Wanted.TheVariants as wanted
 use Rattle.http_model.specs.Asking.{Wish, refused, question, change, allows_of, asked_of, mark_of, name_given, token_in}
+use Rattle.http_model.specs.Framing as given
 use Rattle.http_model.specs.Refusals.{asking_refusal}
 use Rattle.http_model.specs.Requests.{Framed}
 
@@ -19,8 +21,8 @@ use Rattle.http_model.specs.Requests.{Framed}
 abbrev row : List ℕ → List ℕ → List Field → List ℕ → Framed
 row method target fields body =
     record {
-        head = record { blank = []; method = method; target = target; minor = 1; line_end = crlf; fields = fields; last = crlf };
-        body = body;
+      head = record { blank = []; method = method; target = target; minor = 1; line_end = crlf; fields = fields; last = crlf };
+      body = body;
     }
 
 -- a header line
@@ -30,6 +32,12 @@ field name raw = record { name = name; raw = raw; end = crlf }
 -- the token `t`
 abbrev token : Field
 token = field (codes "request-token") (codes " t")
+
+-- ---- ids
+
+-- An id of a target is a number that is given.
+pub is_id-given : (text : List ℕ) → is_id text ≡ given.is_id text
+is_id-given text = refl
 
 -- ---- places 2 and 3
 

@@ -1,6 +1,6 @@
 -- Worked rows: the bytes of replies.
-use Rattle.std.proofs.Common.{◌≡◌, ℕ, Bool, true, false, List, [], ◌∷◌, ◌++◌, length, codes, refl, ap, append-nil}
-use Rattle.std.specs.Fmt.{decimal, digits}
+use Rattle.std.proofs.Common.{◌≡◌, true, false, ◌∷◌, ◌++◌, codes, refl}
+use Rattle.std.specs.Fmt.{digits}
 use Rattle.serde_json.proofs.OnLiterals.{serde_json_on_literals}
 use Rattle.lib_base.specs.declared.outcomes.Rule.TheVariants.{V}
 use Rattle.sound_model.specs.Texts.{millionths}
@@ -8,13 +8,12 @@ use Rattle.library_model.specs.declared.refusals.Refusal.TheVariants.{NoRecordin
 use Rattle.library_model.specs.Machine.{recording_reply}
 use Rattle.library_model.specs.Replies.{format_refusal, refusal}
 use Rattle.library_model.proofs.Rows.{row_recording}
-use Rattle.library_model.specs.declared.messages.Reply.{Reply}
 use Rattle.http_routes.specs.declared.routes.Route.TheVariants.{Recording}
 use Rattle.http_routes.specs.Routes.{methods_of}
 use Rattle.http_model.specs.declared.refusals.AskingRefusal.TheVariants.{Method}
 use Rattle.http_model.specs.declared.refusals.FramingRefusal.TheVariants.{Frame, Length, Size}
 use Rattle.http_model.specs.Refusals.{asking_refusal, framing_refusal}
-use Rattle.http_model.specs.Spelling.{closing, line, media_type, reason, spelled, spelled_with}
+use Rattle.http_model.specs.Spelling.{spelled, spelled_with}
 
 -- The reply to the import of a recording.
 pub spelled-recording_reply : spelled false (recording_reply 201 row_recording)
@@ -71,19 +70,6 @@ pub spelled-memory : spelled false (refusal Memory)
     ++ 13 ∷ 10 ∷ 13 ∷ 10 ∷ codes "{\"error\":\"memory\"}"
 unfolding digits
 spelled-memory = refl
-
--- A line that is not there leaves what stands before it and behind it.
-no_line : (status type size closing end body : List ℕ)
-    → (status ++ type ++ [] ++ size ++ closing ++ end) ++ body ≡ (status ++ type ++ size ++ closing ++ end) ++ body
-no_line status type size closing end body =
-    ap (λ (front : List ℕ). (front ++ size ++ closing ++ end) ++ body) (append-nil (status ++ type))
-
--- A reply that allows no methods has no line `Allow`.
-pub spelled_with-none : (closes : Bool) (reply : Reply) → spelled_with closes [] reply ≡ spelled closes reply
-spelled_with-none closes reply =
-    no_line (line (codes "HTTP/1.1 " ++ decimal reply.status ++ codes " " ++ reason reply.status))
-    (line (codes "Content-Type: " ++ media_type reply.kind)) (line (codes "Content-Length: " ++ decimal (length reply.body)))
-    (closing closes) (line []) reply.body
 
 -- The refusal of a method that a recording has not.
 pub spelled_with-method : spelled_with false (methods_of Recording) (asking_refusal Method)

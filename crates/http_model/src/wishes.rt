@@ -6,7 +6,9 @@ use library_model::Reply;
 #[derive(Debug, Drop)]
 pub enum Command {
     /// An album of that name, with no recording in it.
-    NewAlbum { name: Text },
+    NewAlbum {
+        name: Text,
+    },
     /// A file to be kept as a new recording of that name, in that album or in none.
     Import {
         album: Option<u32>,
@@ -14,7 +16,10 @@ pub enum Command {
         bytes: Bytes,
     },
     /// Another file for a recording.
-    Retake { recording: u32, bytes: Bytes },
+    Retake {
+        recording: u32,
+        bytes: Bytes,
+    },
     /// A recording is to be in that album, or in none.
     Regroup {
         recording: u32,

@@ -1,5 +1,5 @@
 use Rattle.std.proofs.Common.{sym}
-use Rattle.http_asking.proofs.Texts.{if_name-other}
+use Rattle.http_asking.proofs.TextLemmas.{if_name-other}
 use Rattle.http_asking.proofs.fields.name_of.Goals as goal
 
 pub returns-in-Err : goal.returns-in-Err

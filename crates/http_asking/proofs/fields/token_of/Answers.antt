@@ -1,6 +1,6 @@
 use Rattle.std.proofs.Common.{◌∙◌, sym, ap}
 use Rattle.http_model.specs.Asking.{if_token}
-use Rattle.http_asking.proofs.Texts.{if_token-other}
+use Rattle.http_asking.proofs.TextLemmas.{if_token-other}
 use Rattle.http_asking.proofs.fields.token_of.Goals as goal
 
 pub returns-in-Ok : goal.returns-in-Ok

@@ -1,12 +1,13 @@
 -- What is no UTF-8 is no token and no name.
 use Rattle.std.proofs.Common.{◌≡◌, ◌<◌, ℕ, zero, suc, Bool, true, false, ◌&&◌, List, [], ◌∷◌, None, Some, if◌then◌else◌, refl, arith}
-use Rattle.std.specs.Prelude.{IsUtf8}
+use Rattle.std.specs.Prelude.{IsUtf8, length, nat_le}
 use Rattle.std.specs.List.{list_all}
 use Rattle.std.specs.Str.{is_utf8, IsAscii}
 use Rattle.std.proofs.lemmas.Bool.Decides.{nat_tests}
 use Rattle.std.proofs.lemmas.Str.{IsUtf8-from_is_utf8, IsUtf8-from_ascii}
+use Rattle.library_model.specs.declared.limits.TheConstants.{MOST_NAME_BYTES, MOST_TOKEN_BYTES}
 use Rattle.library_model.specs.Named.{if_name}
-use Rattle.library_model.specs.Names.{is_name, is_token, is_token_byte}
+use Rattle.library_model.specs.Names.{is_name, is_shown, is_token, is_token_byte}
 use Rattle.http_model.specs.Asking.{if_token}
 
 -- both of two tests pass
@@ -26,7 +27,9 @@ bytes-IsAscii (c ∷ cs) is (suc i) = bytes-IsAscii cs (both (is_token_byte c) (
 
 -- A token is UTF-8.
 token-IsUtf8 : (text : List ℕ) → is_token text ≡ true → IsUtf8 text
-token-IsUtf8 text is = IsUtf8-from_ascii text (bytes-IsAscii text (both _ _ (both _ _ is).1).1)
+token-IsUtf8 text is =
+    IsUtf8-from_ascii text (bytes-IsAscii text
+    (both (nat_le 1 (length text) && nat_le (length text) MOST_TOKEN_BYTES) (list_all is_token_byte text) is).1)
 
 token_by_test : (text : List ℕ) (test : Bool) → is_token text ≡ test → ¬ (IsUtf8 text) → (if test then Some text else None) ≡ None
 token_by_test text true is other = absurd (other (token-IsUtf8 text is))
@@ -37,7 +40,7 @@ pub if_token-other : (text : List ℕ) → ¬ (IsUtf8 text) → if_token text �
 if_token-other text other = token_by_test text (is_token text) refl other
 
 name_by_test : (text : List ℕ) (test : Bool) → is_name text ≡ test → ¬ (IsUtf8 text) → (if test then Some text else None) ≡ None
-name_by_test text true is other = absurd (other (IsUtf8-from_is_utf8 text (both _ _ is).0))
+name_by_test text true is other = absurd (other (IsUtf8-from_is_utf8 text (both (is_utf8 text) (nat_le (length text) MOST_NAME_BYTES && list_all is_shown text) is).0))
 name_by_test text false is other = refl
 
 -- What is no UTF-8 is no name.
