@@ -8,9 +8,12 @@ use Rattle.library_model.specs.declared.refusals.Refusal.TheVariants.{NoRecordin
 use Rattle.library_model.specs.Machine.{recording_reply}
 use Rattle.library_model.specs.Replies.{format_refusal, refusal}
 use Rattle.library_model.proofs.Rows.{row_recording}
+use Rattle.http_routes.specs.declared.routes.Route.TheVariants.{Recording}
+use Rattle.http_routes.specs.Routes.{methods_of}
+use Rattle.http_model.specs.declared.refusals.AskingRefusal.TheVariants.{Method}
 use Rattle.http_model.specs.declared.refusals.FramingRefusal.TheVariants.{Frame, Length, Size}
-use Rattle.http_model.specs.Refusals.{framing_refusal}
-use Rattle.http_model.specs.Spelling.{spelled}
+use Rattle.http_model.specs.Refusals.{asking_refusal, framing_refusal}
+use Rattle.http_model.specs.Spelling.{spelled, spelled_with}
 
 -- The reply to the import of a recording.
 pub spelled-recording_reply : spelled false (recording_reply 201 row_recording)
@@ -67,3 +70,11 @@ pub spelled-memory : spelled false (refusal Memory)
     ++ 13 ∷ 10 ∷ 13 ∷ 10 ∷ codes "{\"error\":\"memory\"}"
 unfolding digits
 spelled-memory = refl
+
+-- The refusal of a method that a recording has not.
+pub spelled_with-method : spelled_with false (methods_of Recording) (asking_refusal Method)
+    ≡ codes "HTTP/1.1 405 Method Not Allowed" ++ 13 ∷ 10 ∷ codes "Content-Type: application/json"
+    ++ 13 ∷ 10 ∷ codes "Allow: GET, DELETE" ++ 13 ∷ 10 ∷ codes "Content-Length: 18"
+    ++ 13 ∷ 10 ∷ 13 ∷ 10 ∷ codes "{\"error\":\"method\"}"
+unfolding digits
+spelled_with-method = refl

@@ -1,3 +1,4 @@
+pub mod Asking
 pub mod Framing
 pub mod Refusals
 pub mod Requests

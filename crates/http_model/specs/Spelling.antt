@@ -4,6 +4,7 @@ use Rattle.library_model.specs.declared.messages.BodyKind.{BodyKind}
 use Rattle.library_model.specs.declared.messages.BodyKind.TheVariants.{Json, Csv, Wave, Flac}
 use Rattle.library_model.specs.declared.messages.Reply.{Reply}
 use Rattle.library_model.specs.Exchanges.{Exchange}
+use Rattle.http_routes.specs.Routes.{allowed}
 
 -- a line of that text
 abbrev pub line : List ℕ → List ℕ
@@ -16,10 +17,12 @@ reason status =
     else if status == 201 then codes "Created"
     else if status == 400 then codes "Bad Request"
     else if status == 404 then codes "Not Found"
+    else if status == 405 then codes "Method Not Allowed"
     else if status == 409 then codes "Conflict"
     else if status == 411 then codes "Length Required"
     else if status == 413 then codes "Content Too Large"
     else if status == 422 then codes "Unprocessable Content"
+    else if status == 500 then codes "Internal Server Error"
     else if status == 502 then codes "Bad Gateway"
     else if status == 503 then codes "Service Unavailable"
     else if status == 504 then codes "Gateway Timeout"
@@ -37,6 +40,11 @@ abbrev pub closing : Bool → List ℕ
 closing true = line (codes "Connection: close")
 closing false = []
 
+-- says which methods the target has, where that is asked (RFC 9110 section 10.2.1)
+abbrev pub allowing : List (List ℕ) → List ℕ
+allowing [] = []
+allowing (method ∷ methods) = line (codes "Allow: " ++ allowed (method ∷ methods))
+
 -- the lines of a reply up to its body
 abbrev pub spelled_head : Bool → Reply → List ℕ
 spelled_head closes reply =
@@ -49,6 +57,20 @@ spelled_head closes reply =
 -- the bytes of a reply
 abbrev pub spelled : Bool → Reply → List ℕ
 spelled closes reply = spelled_head closes reply ++ reply.body
+
+-- the lines of a reply up to its body, with one that says which methods there are
+abbrev pub spelled_head_with : Bool → List (List ℕ) → Reply → List ℕ
+spelled_head_with closes methods reply =
+    line (codes "HTTP/1.1 " ++ decimal reply.status ++ codes " " ++ reason reply.status)
+    ++ line (codes "Content-Type: " ++ media_type reply.kind)
+    ++ allowing methods
+    ++ line (codes "Content-Length: " ++ decimal (length reply.body))
+    ++ closing closes
+    ++ line []
+
+-- the bytes of a reply that says which methods there are
+abbrev pub spelled_with : Bool → List (List ℕ) → Reply → List ℕ
+spelled_with closes methods reply = spelled_head_with closes methods reply ++ reply.body
 
 -- the bytes of the replies of exchanges after which the connection stays, one after another
 abbrev pub spelled_all : List Exchange → List ℕ

@@ -1,10 +1,12 @@
-//! What a reader must believe of the wire: the requests that bytes spell, how an input is framed, and
-//! the bytes that spell replies (RFC 9112).
+//! What a reader must believe of the wire: the requests that bytes spell, how an input is framed,
+//! what a framed request asks, and the bytes that spell replies (RFC 9112).
 //!
-//! The definitions stand in `specs/`, and hold no algorithm. Here stand the refusals of framing, whose
-//! statuses and words both definitions and code read.
+//! The definitions stand in `specs/`, and hold no algorithm. Here stand the refusals, whose
+//! statuses and words both definitions and code read, and what a request asks.
 #![tactic(auto)]
 
 mod refusals;
+mod wishes;
 
-pub use refusals::FramingRefusal;
+pub use refusals::{AskingRefusal, FramingRefusal};
+pub use wishes::{Command, Question, Wanted};

@@ -1,2 +1,4 @@
 pub mod Inserting
+pub mod NumberLemmas
+pub mod Texts
 pub mod Worked

@@ -1,5 +1,7 @@
 -- The routes, and the one that a target finds.
-use Rattle.std.specs.Prelude.{ℕ, List, [], ◌∷◌, ◌++◌, codes, Option, Result, Ok, Err, option_map}
+use Rattle.std.specs.Prelude.{ℕ, Bool, List, [], ◌∷◌, ◌++◌, codes, Option, None, Some, Result, Ok, Err, option_map}
+use Rattle.std.specs.List.{list_any}
+use Rattle.std.specs.Str.{bytes_eq}
 use Rattle.matchit.specs.Order.{placed}
 use Rattle.matchit.specs.Route.{Scan, parse_route}
 use Rattle.matchit.specs.Router.{RouteOf, route_from}
@@ -52,6 +54,15 @@ methods_of Audio = codes "PUT" ∷ []
 methods_of RecordingAlbum = codes "PUT" ∷ []
 methods_of Recording = codes "GET" ∷ codes "DELETE" ∷ []
 methods_of Album = codes "GET" ∷ codes "DELETE" ∷ []
+
+-- the methods of a route, and none without one
+abbrev pub methods_if : Option Route → List (List ℕ)
+methods_if (Some route) = methods_of route
+methods_if None = []
+
+-- the route has that method
+abbrev pub has_method : List ℕ → Route → Bool
+has_method method route = list_any (bytes_eq method) (methods_of route)
 
 -- methods as a line `Allow` names them, a comma and a space between two
 abbrev pub allowed : List (List ℕ) → List ℕ

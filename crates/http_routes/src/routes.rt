@@ -1,8 +1,7 @@
 //! The paths that are built, and the search for a target's.
 ghost use Rattle.std.specs.Prelude.{◌≡◌, IfOk, option_map};
-ghost use Rattle.std.specs.List.{list_any};
 ghost use Rattle.std.specs.Str.{bytes_eq};
-ghost use Rattle.http_routes.specs.Routes.{allowed, methods_of, route_found, with_path, Rows};
+ghost use Rattle.http_routes.specs.Routes.{allowed, has_method, methods_of, route_found, routes, with_path, Rows};
 
 use lib_base::Memory;
 use matchit::Router;
@@ -30,13 +29,15 @@ pub enum Route {
 
 impl Route {
     /// Whether it has that method.
-    pub fn has_method(self, method: &str) -> bool
-        ensures { result ≡ list_any (bytes_eq method.now) (methods_of self) }
+    pub fn has_method(self, method: &[u8]) -> bool
+        ensures { result ≡ has_method method.now self }
     {
         match self {
-            Route::Albums | Route::Recordings | Route::AlbumRecordings => method == "POST",
-            Route::Audio | Route::RecordingAlbum => method == "PUT",
-            Route::Recording | Route::Album => method == "GET" || method == "DELETE",
+            Route::Albums | Route::Recordings | Route::AlbumRecordings => is_same(method, b"POST"),
+            Route::Audio | Route::RecordingAlbum => is_same(method, b"PUT"),
+            Route::Recording | Route::Album => {
+                is_same(method, b"GET") || is_same(method, b"DELETE")
+            }
         }
     }
 
@@ -71,7 +72,9 @@ impl Model for Paths {
 
 impl Paths {
     /// Puts each path in once, in the order of the table of requests.
-    pub fn new(alloc: Global) -> Result<Paths, Memory> {
+    pub fn new(alloc: Global) -> Result<Paths, Memory>
+        ensures { IfOk result (λ paths. paths ≡ routes) }
+    {
         let router = Router::new(alloc);
         let router = with_route(router, "/albums", Route::Albums)?;
         let router = with_route(router, "/recordings", Route::Recordings)?;
@@ -92,6 +95,12 @@ impl Paths {
             Err(_) => None,
         }
     }
+}
+
+fn is_same(method: &[u8], word: &[u8]) -> bool
+    ensures { result ≡ bytes_eq method.now word.now }
+{
+    method == word
 }
 
 /// The router with one path more. Each path here reads and conflicts with none that is there, so

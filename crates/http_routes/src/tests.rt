@@ -1,5 +1,5 @@
 //! Targets, the routes that they find, and their methods. Memory is ample here.
-use crate::{Paths, Route};
+use crate::{Paths, Resource, Route};
 use std::test::Fail;
 
 #[test]
@@ -50,8 +50,40 @@ fn routes_have_methods(rt: HostRuntime) -> Result<(), Fail> {
         assert_eq!(rt; route.allowed(), allowed, "{route:?}");
         for method in ["GET", "POST", "PUT", "DELETE", "PATCH", "HEAD", "get", ""] {
             let has = !method.is_empty() && allowed.contains(method);
-            assert_eq!(rt; route.has_method(method), has, "{route:?} {method}");
+            assert_eq!(rt;
+                route.has_method(method.as_bytes()),
+                has,
+                "{route:?} {method}"
+            );
         }
+    }
+    Ok(())
+}
+
+#[test]
+fn targets_name_resources(rt: HostRuntime) -> Result<(), Fail> {
+    let paths = Paths::new(rt.alloc())?;
+    for (target, want) in [
+        (b"/albums".as_slice(), Some(Resource::Albums)),
+        (b"/recordings", Some(Resource::Recordings)),
+        (b"/albums/1/recordings", Some(Resource::AlbumRecordings(1))),
+        (b"/recordings/10/audio", Some(Resource::Audio(10))),
+        (
+            b"/recordings/2147483646/album",
+            Some(Resource::RecordingAlbum(2_147_483_646)),
+        ),
+        (b"/recordings/2147483647", Some(Resource::Recording(0))),
+        (b"/recordings/4294967297", Some(Resource::Recording(0))),
+        (b"/recordings/01", Some(Resource::Recording(0))),
+        (b"/recordings/1\xc3\xbc", Some(Resource::Recording(0))),
+        (b"/albums/+1", Some(Resource::Album(0))),
+        (b"/albums/0", Some(Resource::Album(0))),
+        (b"/albums/7", Some(Resource::Album(7))),
+        (b"/albums/\xff", None),
+        (b"/albums/7/", None),
+        (b"", None),
+    ] {
+        assert_eq!(rt; paths.resource(target), want, "{target:?}");
     }
     Ok(())
 }

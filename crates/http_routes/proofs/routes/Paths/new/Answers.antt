@@ -18,3 +18,6 @@ invariant_of-result c =
     ∙ more AlbumRecordings (codes "/albums/{a}/recordings") _ _ (c.in_ok-router-2.ensures
     ∙ more Recordings (codes "/recordings") _ _ (c.in_ok-router.ensures
     ∙ more Albums (codes "/albums") _ _ (c.new-router.ensures)))))))
+
+pub returns : goal.returns
+returns c = invariant_of-result c

@@ -1,0 +1,110 @@
+-- Worked rows: what framed requests ask.
+use Rattle.std.proofs.Common.{◌≡◌, ℕ, List, [], ◌∷◌, ◌++◌, None, Some, codes, refl}
+use Rattle.std.specs.Char.{encode_utf8}
+use Rattle.std.specs.Str.{chars, is_utf8}
+use Rattle.httparse.proofs.OnLiterals.{httparse_on_literals}
+use Rattle.httparse.specs.Grammar.{RequestHead, Field, crlf}
+use Rattle.matchit.proofs.OnLiterals.{matchit_on_literals}
+use Rattle.md5.specs.Md5.{block_words, rounds, compress, hash_after, digest_bytes, md5}
+use Rattle.serde_json.proofs.OnLiterals.{serde_json_on_literals}
+use Rattle.http_routes.specs.Ids.{is_id}
+use Rattle.http_model.specs.declared.refusals.AskingRefusal.TheVariants.{NoRoute, Method, Token, Name, Body}
+use Rattle.http_model.specs.declared.wishes.Command.TheVariants.{NewAlbum, Import, Retake, Regroup, RemoveRecording, RemoveAlbum}
+use Rattle.http_model.specs.declared.wishes.Question.TheVariants as about
+use Rattle.http_model.specs.declared.wishes.Wanted.TheVariants as wanted
+use Rattle.http_model.specs.Asking.{Wish, refused, question, change, allows_of, asked_of, mark_of, name_given, token_in}
+use Rattle.http_model.specs.Framing as given
+use Rattle.http_model.specs.Refusals.{asking_refusal}
+use Rattle.http_model.specs.Requests.{Framed}
+
+-- a request of that method and target, with these header lines and that body
+abbrev row : List ℕ → List ℕ → List Field → List ℕ → Framed
+row method target fields body =
+    record {
+      head = record { blank = []; method = method; target = target; minor = 1; line_end = crlf; fields = fields; last = crlf };
+      body = body;
+    }
+
+-- a header line
+abbrev field : List ℕ → List ℕ → Field
+field name raw = record { name = name; raw = raw; end = crlf }
+
+-- the token `t`
+abbrev token : Field
+token = field (codes "request-token") (codes " t")
+
+-- ---- ids
+
+-- An id of a target is a number that is given.
+pub is_id-given : (text : List ℕ) → is_id text ≡ given.is_id text
+is_id-given text = refl
+
+-- ---- places 2 and 3
+
+-- A target that finds no route is refused.
+pub asked_of-no_route : asked_of (row (codes "GET") (codes "/groups") [] []) ≡ refused (asking_refusal NoRoute)
+unfolding matchit_on_literals is_utf8 chars encode_utf8
+asked_of-no_route = refl
+
+-- So is a method that the route has not, in small letters too. The reply allows those that it has.
+pub asked_of-method : asked_of (row (codes "get") (codes "/recordings/1") [] []) ≡ refused (asking_refusal Method)
+unfolding matchit_on_literals is_utf8 chars encode_utf8
+asked_of-method = refl
+
+pub allows_of-recording : allows_of (row (codes "HEAD") (codes "/recordings/1") [] []) ≡ codes "GET" ∷ codes "DELETE" ∷ []
+unfolding matchit_on_literals is_utf8 chars encode_utf8
+allows_of-recording = refl
+
+-- A reply to a method that the route has allows none.
+pub allows_of-none : allows_of (row (codes "GET") (codes "/recordings/1") [] []) ≡ []
+unfolding matchit_on_literals is_utf8 chars encode_utf8
+allows_of-none = refl
+
+-- A question needs no token.
+pub asked_of-question : asked_of (row (codes "GET") (codes "/albums/12") [] []) ≡ question (about.Album 12)
+unfolding matchit_on_literals is_utf8 chars encode_utf8
+asked_of-question = refl
+
+-- A change does.
+pub asked_of-token : asked_of (row (codes "DELETE") (codes "/albums/12") [] []) ≡ refused (asking_refusal Token)
+unfolding matchit_on_literals httparse_on_literals is_utf8 chars encode_utf8
+asked_of-token = refl
+
+-- One value is a token, two are none, nor is one of another form.
+pub token_in-each : token_in (codes "a-Z9" ∷ []) ∷ token_in (codes "t" ∷ codes "t" ∷ []) ∷ token_in (codes "a b" ∷ []) ∷ token_in ([] ∷ []) ∷ token_in [] ∷ []
+    ≡ Some (codes "a-Z9") ∷ None ∷ None ∷ None ∷ None ∷ []
+token_in-each = refl
+
+-- ---- what is wanted
+
+-- A recording's removal, under its token.
+pub asked_of-removal : asked_of (row (codes "DELETE") (codes "/recordings/7") (token ∷ []) [])
+    ≡ change (codes "t") (mark_of (codes "DELETE") (codes "/recordings/7") [] []) (wanted.Command (RemoveRecording 7))
+unfolding matchit_on_literals httparse_on_literals is_utf8 chars encode_utf8
+asked_of-removal = refl
+
+-- An import into an album, under a name.
+pub asked_of-import : asked_of (row (codes "POST") (codes "/albums/3/recordings") (token ∷ field (codes "Recording-Name") (codes "A") ∷ []) (1 ∷ []))
+    ≡ change (codes "t") (mark_of (codes "POST") (codes "/albums/3/recordings") (codes "A") (1 ∷ [])) (wanted.Command (Import (Some 3) (codes "A") (1 ∷ [])))
+unfolding matchit_on_literals httparse_on_literals is_utf8 chars encode_utf8
+asked_of-import = refl
+
+-- A body that chooses no album, under its token.
+pub asked_of-body : asked_of (row (codes "PUT") (codes "/recordings/7/album") (token ∷ []) (codes "{}"))
+    ≡ change (codes "t") (mark_of (codes "PUT") (codes "/recordings/7/album") [] (codes "{}")) (wanted.Malformed (asking_refusal Body))
+unfolding matchit_on_literals httparse_on_literals serde_json_on_literals is_utf8 chars encode_utf8
+asked_of-body = refl
+
+-- No name is the empty one, and two are none.
+pub name_given-each : name_given [] ∷ name_given (codes "A" ∷ []) ∷ name_given (codes "A" ∷ codes "A" ∷ []) ∷ name_given ((31 ∷ []) ∷ []) ∷ []
+    ≡ Some [] ∷ Some (codes "A") ∷ None ∷ None ∷ []
+unfolding is_utf8 chars encode_utf8
+name_given-each = refl
+
+-- ---- marks
+
+-- The mark of a new album with the name A: the MD5 that md5sum gives of its parts with line feeds between.
+pub mark_of-new_album : mark_of (codes "POST") (codes "/albums") [] (codes "{\"name\":\"A\"}")
+    ≡ 94 ∷ 249 ∷ 73 ∷ 34 ∷ 39 ∷ 72 ∷ 247 ∷ 100 ∷ 179 ∷ 90 ∷ 80 ∷ 199 ∷ 214 ∷ 205 ∷ 163 ∷ 142 ∷ []
+unfolding block_words rounds compress hash_after digest_bytes md5
+mark_of-new_album = refl
