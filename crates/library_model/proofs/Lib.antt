@@ -12,3 +12,4 @@ pub mod SegmentRows
 pub mod Determined
 pub mod NoBadRow
 pub mod ValidRows
+pub mod Dropped
