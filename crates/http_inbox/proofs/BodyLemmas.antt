@@ -1,10 +1,12 @@
 -- What was there of a body, and what was drawn behind it.
-use Rattle.std.proofs.Common.{◌≡◌, ◌≤◌, ℕ, ◌+◌, List, ◌++◌, length, take, drop, sym, ap, ◌∙◌, subst, arith, length-append, length-take, length-drop, take-add}
+use Rattle.std.proofs.Common.{◌≡◌, ◌≤◌, ℕ, ◌+◌, List, [], ◌++◌, length, take, drop, sym, ap, ◌∙◌, subst, arith, append-nil, length-append, length-take, length-drop, take-add}
 use Rattle.std.proofs.Math.Seq.{take-append_seam}
+use Rattle.std.proofs.KnownBytes.{Consumes-nil}
 use Rattle.lib_base.specs.Sources.{SourceView}
 use Rattle.lib_base.specs.declared.sources.ReadEnd.{ReadEnd}
 use Rattle.http_inbox.specs.Filling.{Fills}
-use Rattle.http_inbox.specs.Bodies.{DrawsUpTo}
+use Rattle.http_inbox.specs.declared.bodies.BodyRead.TheVariants.{Whole}
+use Rattle.http_inbox.specs.Bodies.{DrawsUpTo, ReadsBody}
 
 -- What was filled behind bytes was drawn to there.
 filled : (old new : SourceView) (before zeros into : List ℕ) (count : ℕ) (end : ReadEnd)
@@ -42,3 +44,16 @@ drew_filled old new before zeros mid into now done count end is appended same fr
     (ap (λ (n : ℕ). take n into) (sym is) ∙ front ∙ ap (λ (n : ℕ). take n mid) is ∙ ap (take (length before)) appended
     ∙ take-append_seam before zeros)
     (subst (λ (n : ℕ). Fills old new (drop n into) count end) is fills))
+
+-- All of the body was there.
+pub body_there : (v : SourceView) (body : List ℕ) (size : ℕ) → length body ≤ size → size ≤ length body
+    → ReadsBody v v body size (Whole body)
+body_there v body size within whole =
+    let all : length body ≡ size = omega (arith, within, whole) in
+    record {
+      piece = [];
+      content = Consumes-nil v.left;
+      found = (sym (append-nil body), ap length (append-nil body) ∙ all);
+      untouched = λ is. absurd (cc is);
+      faults = record { later = omega arith; cause = λ is. absurd (cc is) };
+    }

@@ -29,7 +29,7 @@ pub fn read_body<S: Source>(alloc: Global, held: &[u8], source: &mut S, size: us
     ensures { ReadsBody (S.shown source.old) (S.shown source.new) (take size held.now) size result }
 {
     match begin(alloc, held, size) {
-        Ok(body) => read_rest(source, body, size),
+        Ok(body) => read_on(source, body, size),
         Err(Memory) => BodyRead::Memory,
     }
 }
@@ -42,6 +42,20 @@ fn begin(alloc: Global, held: &[u8], size: usize) -> Result<Vec<u8>, Memory>
     let mut body = Vec::with_capacity(alloc, size)?;
     body.extend_from_slice(held.split_at(size.min(held.len())).0)?;
     Ok(body)
+}
+
+/// Reads the rest of a body of that size, where there is one.
+#[tactic(auto, using(crate::proofs::BodyLemmas::body_there))]
+fn read_on<S: Source>(source: &mut S, body: Vec<u8>, size: usize) -> BodyRead
+    requires within { length body.items ≤ size }
+    requires room { size ≤ vec_capacity body }
+    ensures { ReadsBody (S.shown source.old) (S.shown source.new) body.items size result }
+{
+    if body.len() < size {
+        read_rest(source, body, size)
+    } else {
+        BodyRead::Whole(Bytes::of(body))
+    }
 }
 
 /// Reads the rest of a body of that size.

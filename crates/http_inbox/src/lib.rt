@@ -1,6 +1,10 @@
 //! Requests out of a source that hands out its bytes in whatever pieces it likes.
 //!
-//! `fill` reads straight to where the bytes are wanted.
+//! `next_request` reads the next one: its head stays in the `Inbox` until `pass` lets it go, its body
+//! is read straight to where it is kept. It promises that what it frames is that request however the
+//! bytes go on, that what it refuses can't be framed however they go on, or as they are at the
+//! source's end, and that it answers a fault only where the source counted one. `fill` reads
+//! straight to where bytes are wanted.
 #![tactic(auto)]
 
 mod bodies;
