@@ -13,3 +13,4 @@ pub mod Determined
 pub mod NoBadRow
 pub mod ValidRows
 pub mod Dropped
+pub mod Resumming
