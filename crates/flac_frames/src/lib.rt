@@ -11,6 +11,9 @@ mod frame;
 #[cfg(test)]
 mod frame_tests;
 mod header;
+mod one_channel;
+#[cfg(test)]
+mod one_channel_tests;
 mod residual;
 mod rules;
 mod subframe;
@@ -20,3 +23,4 @@ mod tests;
 pub use file_model::{Info, Stereo};
 pub use frame::{FrameEnd, GREATEST_BLOCK, channel, read_frame};
 pub use header::{Header, read_header};
+pub use one_channel::read_one_channel;

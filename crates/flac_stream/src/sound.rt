@@ -9,7 +9,7 @@ ghost use Rattle.flac_stream.specs.Sounding.{HasLists, HasLists-prop, AreFrames,
 
 use crate::files::{FlacFile, scratch_size_for};
 use crate::frames::FramePlace;
-use flac_frames::{GREATEST_BLOCK, channel, read_frame};
+use flac_frames::{GREATEST_BLOCK, channel, read_one_channel};
 use lib_base::{Scratch, Sound};
 
 /// The sound of a FLAC file. It holds no sample: the frames that hold a part are decoded when the
@@ -81,25 +81,26 @@ impl<'a> FlacSound<'a> {
         ensures long { length out.new ≡ length out.old }
         ensures room { length scratch.new.cells ≡ length scratch.old.cells }
     {
-        let (first, block) = self.decode(frame, scratch);
+        let (first, block) = self.decode(frame, index, scratch);
         let from = (start + done as u64 - first) as usize;
         done + copy_behind(channel(scratch, block, index), from, out, done)
     }
 
-    /// Decodes a frame. It tells how many samples of each channel stand before it, and how many it
-    /// has.
-    fn decode(&self, frame: usize, scratch: &mut Scratch) -> (u64, u32)
+    /// Decodes a channel of a frame. It tells how many samples of each channel stand before the
+    /// frame, and how many it has.
+    fn decode(&self, frame: usize, index: usize, scratch: &mut Scratch) -> (u64, u32)
+        requires channel { index < self.now.file.now.info.channels }
         requires room { self.now.file.now.info.channels * GREATEST_BLOCK ≤ length scratch.old.cells }
         requires frame { frame < length self.now.file.now.places }
         ensures first { result.0 ≡ samples_before self.now.file.now frame }
-        ensures cells { IsInCells self.now.file.now self.now.held.0 scratch.new.cells frame result.1 }
+        ensures cells { IsInCells self.now.file.now self.now.held.0 scratch.new.cells frame index result.1 }
         ensures room { length scratch.new.cells ≡ length scratch.old.cells }
     {
         let place = place_of(self.file, frame);
         let info = self.file.info();
-        match read_frame(self.bytes, place.at, &info, scratch) {
-            Ok(end) => (place.first, end.block),
-            Err(_) => unreachable!(),
+        match read_one_channel(self.bytes, place.at, &info, index, scratch) {
+            Some(block) => (place.first, block),
+            None => unreachable!(),
         }
     }
 }
