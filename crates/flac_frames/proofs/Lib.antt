@@ -1,4 +1,5 @@
 pub mod Frames
+pub mod Ones
 pub mod Places
 pub mod Residuals
 pub mod Sounds

@@ -72,7 +72,7 @@ fn read_independent(
 }
 
 /// Reads left and right from a pair of channels, to the start of the cells.
-fn read_pair_at(
+pub(crate) fn read_pair_at(
     reader: &mut BitReader,
     kind: Stereo,
     depth: u32,

@@ -1,10 +1,10 @@
 //! A subframe: the samples of one channel (RFC 9639 section 9.2).
-ghost use Rattle.std.specs.Prelude.{◌≡◌, ◌≤◌, ◌<◌, ◌+◌, ◌-◌, ◌^◌, ℕ, ℤ, pos, ◌*ℤ◌, List, length, map, take, replicate, All, IfOk, OnOk};
+ghost use Rattle.std.specs.Prelude.{◌≡◌, ◌≤◌, ◌<◌, ◌+◌, ◌-◌, ◌^◌, ℕ, ℤ, Bool, pos, ◌*ℤ◌, List, length, map, take, replicate, All, Ok, IfOk, IsOkAnd, OnOk};
 ghost use Rattle.bit_codec.specs.Reader.{left, source};
 ghost use Rattle.lib_base.specs.Sounds.{IsSample};
 ghost use Rattle.file_model.specs.declared.flac_rules.FlacRule.TheVariants.{OutOfRange};
 ghost use Rattle.file_model.specs.Outcomes.{Gives, Finds};
-ghost use Rattle.file_model.specs.Subframe.{fixed, linear, coding_of, order_of, subframe_head_at, predictor_at, content_at, IsSpelledBy, Channel};
+ghost use Rattle.file_model.specs.Subframe.{fixed, linear, coding_of, order_of, Coded, subframe_head_at, predictor_at, content_at, subframe_at, IsSpelledBy, Channel};
 ghost use Rattle.flac_frames.specs.Answers.{Comes};
 ghost use Rattle.flac_frames.specs.declared.subframe.Predictor.TheVariants as by;
 ghost use Rattle.flac_frames.specs.Subframes.{coding_as, HasRoom, weights_in, coded_by, AreWeights, IsReady, Restores, Spelled, head_with, head_with_some};
@@ -71,6 +71,47 @@ pub(crate) fn read_channel(
 {
     match read_head(reader, out.len(), depth) {
         Ok(head) => read_coded(reader, head.coding, head.wasted, depth, out),
+        Err(rule) => Err(rule),
+    }
+}
+
+/// Skips a channel of so many bits: its numbers are read into the cells, and no sample is restored.
+pub(crate) fn skip_channel(
+    reader: &mut BitReader,
+    depth: u32,
+    cells: &mut [i32],
+) -> Result<(), FlacRule>
+    requires low { 1 ≤ depth }
+    requires high { depth ≤ 25 }
+    requires block { length cells.old ≤ GREATEST_BLOCK }
+    ensures { (coded : Coded) (rest : List Bool)
+        → subframe_at (length cells.old) depth (left reader.old) ≡ Ok (coded, rest)
+        → IsOkAnd result (λ _. left reader.new ≡ rest) }
+{
+    match read_head(reader, cells.len(), depth) {
+        Ok(head) => skip_coded(reader, head.coding, head.wasted, depth, cells),
+        Err(rule) => Err(rule),
+    }
+}
+
+/// Skips a channel of so many bits, behind the head of its subframe.
+fn skip_coded(
+    reader: &mut BitReader,
+    coding: Coding,
+    wasted: u32,
+    depth: u32,
+    cells: &mut [i32],
+) -> Result<(), FlacRule>
+    requires wasted { wasted < depth }
+    requires high { depth ≤ 25 }
+    requires room { HasRoom (length cells.old) coding }
+    requires block { length cells.old ≤ GREATEST_BLOCK }
+    ensures { (coded : Coded) (rest : List Bool)
+        → content_at (coding_as coding) (length cells.old) (depth - wasted) wasted
+        (left reader.old) ≡ Ok (coded, rest) → IsOkAnd result (λ _. left reader.new ≡ rest) }
+{
+    match read_content(reader, coding, depth - wasted, cells) {
+        Ok(_) => Ok(()),
         Err(rule) => Err(rule),
     }
 }

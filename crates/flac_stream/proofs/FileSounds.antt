@@ -1,5 +1,5 @@
 -- The sound of a FLAC file that is accepted is a sound.
-use Rattle.std.proofs.Common.{◌≡◌, ◌≤◌, ◌<◌, ◌+◌, ◌*◌, inl, inr, ℕ, zero, suc, Bool, List, [], ◌∷◌, length, take, drop, Option, Ok, refl, ap, sym, subst, arith}
+use Rattle.std.proofs.Common.{◌≡◌, ◌≤◌, ◌<◌, ◌+◌, ◌*◌, inl, inr, ℕ, zero, suc, Bool, List, [], ◌∷◌, length, take, drop, Option, Ok, refl, ap, sym, ◌∙◌, subst, arith}
 use Rattle.std.specs.Prelude.{ℤ, ◌==◌, nat_le, All, IfSome}
 use Rattle.std.proofs.lemmas.Bool.{eqb-true, leb-true}
 use Rattle.std.proofs.lemmas.List.{length_push}
@@ -17,6 +17,7 @@ use Rattle.file_model.specs.FlacFrame.{FlacFrame, footer_at, Body, Frame}
 use Rattle.file_model.specs.FlacHeader.{FlacHeader, of_frame, bytes_before, codes_at, size_at, rate_at, channels_of, stereo_of, depth_of, header_at}
 use Rattle.file_model.specs.Outcomes.{holds}
 use Rattle.file_model.specs.Pcm.{Pcm}
+use Rattle.flac_frames.specs.Frames.{HasBlock}
 use Rattle.flac_frames.proofs.Residuals.{ok_is}
 use Rattle.flac_frames.proofs.Stereos.{two_channels}
 use Rattle.flac_frames.proofs.Wholes.{both_give}
@@ -82,6 +83,15 @@ block_is : (info : Info) (block : ℕ) (bytes : List ℕ) (frame : FlacFrame) �
 block_is info block bytes frame some is =
     let all = is.channels.as_many in
     All-get_or (IsLong block) frame.lists 0 [] (omega (arith, some, all)) is.channels.long
+
+-- a frame has as many samples of each channel as its header says
+pub frame_block : (info : Info) (bytes : List ℕ) (frame : FlacFrame) (block : ℕ) → 1 ≤ info.channels → Frame info bytes (Ok frame) → HasBlock info bytes block
+    → block_of frame ≡ block
+frame_block info bytes frame block some (inl (header, is, body)) (other, is_other, block_is_other) =
+    let same : header ≡ other = ok_is header other (is ∙ is_other) in
+    block_is info header.block bytes frame some (body_sounds info bytes header frame (header_pair info bytes header (sym is)) body)
+    ∙ ap (λ (h : FlacHeader). h.block) same ∙ sym block_is_other
+frame_block info bytes frame block some (inr (rule, is, out)) headed = cc
 
 samples_few : (channels before block : ℕ) → 1 ≤ channels → channels * (before + block) ≤ MOST_SAMPLES → before + block ≤ MOST_SAMPLES
 samples_few channels before block some most =

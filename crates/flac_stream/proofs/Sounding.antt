@@ -1,8 +1,9 @@
 -- Where the frames of a file stand, and which part of its sound each of them has.
 use Rattle.std.proofs.Common.{◌≡◌, ◌≤◌, ◌<◌, ◌+◌, ◌-◌, ◌*◌, inl, inr, ℕ, zero, suc, List, [], ◌∷◌, ◌++◌, length, length-drop, take, drop, map, get_or, Ok, Err, refl, ap, sym, ◌∙◌, subst, arith}
 use Rattle.std.specs.Prelude.{ℤ}
-use Rattle.std.specs.Coded.{Coded-set, coded_list, coded_ℤ}
+use Rattle.std.specs.Coded.{Coded-set, coded_list, coded_ℕ, coded_ℤ}
 use Rattle.std.proofs.Math.Logic.{∥∥₁_elim}
+use mathlib.Core.HLevel.{⊥_prop}
 use Rattle.std.proofs.lemmas.Bool.{cases_lt}
 use Rattle.std.proofs.lemmas.Nat.{mul-le}
 use Rattle.std.proofs.lemmas.List.{take_at, drop_at, length-take-le, drop-drop, drop-take, take-take, get_or_append_left, get_or_push, get_or_default, get_or-map, get_or_past, length-map}
@@ -13,16 +14,13 @@ use Rattle.file_model.specs.FlacFile.{block_of, blocks_of, channel_in, channels_
 use Rattle.file_model.specs.FlacFrame.{FlacFrame, Frame}
 use Rattle.file_model.specs.Pcm.{Pcm}
 use Rattle.file_model.proofs.FlacLaws.{IsFlac_unique}
-use Rattle.file_model.proofs.FrameLaws.{Frame_decides}
-use Rattle.flac_frames.specs.declared.frame.FrameEnd.{FrameEnd}
-use Rattle.flac_frames.proofs.Residuals.{ok_is}
-use Rattle.flac_frames.specs.Frames.{frame_in}
+use Rattle.flac_frames.specs.Frames.{HasBlock}
 use Rattle.flac_stream.specs.declared.frames.FramePlace.{FramePlace}
 use Rattle.flac_stream.specs.Frames.{places_from}
 use Rattle.flac_stream.specs.Shape.{Shape, IsReadOf}
-use Rattle.flac_stream.specs.Sounding.{HasLists, samples_before, IsPart, IsFrameAt, AreFrames, IsInCells}
-use Rattle.flac_stream.proofs.FileSounds.{next_is, frames_even, length-channels_in, sound_is, IsFlacOf_sounds}
-use Rattle.flac_stream.proofs.Hearing.{blocks_of-cons, length-channel}
+use Rattle.flac_stream.specs.Sounding.{HasLists, samples_before, IsPart, HasFrame, IsFrameAt, AreFrames, IsInCells}
+use Rattle.flac_stream.proofs.FileSounds.{next_is, frames_even, length-channels_in, sound_is, IsFlacOf_sounds, frame_block}
+use Rattle.flac_stream.proofs.Hearing.{blocks_of-cons}
 use Rattle.flac_stream.proofs.Infos.{IsWithin, info_fits}
 
 -- how many samples of each channel stand before each place
@@ -143,17 +141,9 @@ record IsFound (bytes : List ℕ) (file : Shape) (lists : List (List ℤ)) (inde
   stands : Frame file.info (drop place.at bytes) (Ok frame)
   is_part : IsPart file lists index frame
 
--- it is the only one, and no rule is broken there
-only_frame : (bytes : List ℕ) (file : Shape) (lists : List (List ℤ)) (index : ℕ) (place : FramePlace) → IsFound bytes file lists index place
+is_frame_at : (bytes : List ℕ) (file : Shape) (lists : List (List ℤ)) (index : ℕ) (place : FramePlace) → IsFound bytes file lists index place
     → IsFrameAt bytes file lists index place
-only_frame bytes file lists index place found = record {
-  inside = found.inside;
-  no_other = λ rule broken.
-      (let outcomes = Frame_decides file.info (drop place.at bytes) (Ok found.frame) (Err rule) found.stands broken in cc);
-  is_part = λ other again.
-      (let outcomes = Frame_decides file.info (drop place.at bytes) (Ok found.frame) (Ok other) found.stands again in
-      subst (IsPart file lists index) (ok_is found.frame other outcomes) found.is_part);
-}
+is_frame_at bytes file lists index place found = record { inside = found.inside; found = ∣ (found.frame, found.stands, found.is_part) ∣₁ }
 
 frame_found : (bytes : List ℕ) (file : Shape) (read : IsReadOf bytes file) (index : ℕ) (place : FramePlace) → index < length file.places
     → ((other : FramePlace) → place ≡ get_or file.places index other) → IsFound bytes file read.sound.lists index place
@@ -217,7 +207,7 @@ are_frames bytes file read =
       channels = ap length (lists_are bytes file read) ∙ length-channels_in read.frames file.info.channels;
       none_before = none_before bytes file read;
       rise = frames_rise bytes file read;
-      stand = λ index place less is. only_frame bytes file read.sound.lists index place (frame_found bytes file read index place less is);
+      stand = λ index place less is. is_frame_at bytes file read.sound.lists index place (frame_found bytes file read index place less is);
     }
 
 -- and its sound
@@ -233,33 +223,43 @@ is_sound bytes file read =
 -- ---- a frame in the cells
 
 -- what is decoded again is what was
-pub in_cells : (bytes : List ℕ) (file : Shape) (lists : List (List ℤ)) (index : ℕ) (place : FramePlace) (cells : List ℤ) (end : FrameEnd)
-    → IsFrameAt bytes file lists index place → 1 ≤ file.info.channels → file.info.channels * 65536 ≤ length cells → end.block ≤ 65536
-    → Frame file.info (drop place.at bytes) (Ok (frame_in cells file.info.channels place.at end)) → IsInCells file lists cells index end.block
-in_cells bytes file lists index place cells end is some room few decoded =
-    let channels = file.info.channels in
-    let again : FlacFrame = frame_in cells channels place.at end in
-    let here = is.is_part again decoded in
-    let itself : channels ≤ channels = omega arith in
-    let most = mul-le channels end.block channels 65536 itself few in
-    let fits : channels * end.block ≤ length cells = omega (arith, most, room) in
-    let block : block_of again ≡ end.block = length-channel end.block channels 0 cells (omega (arith, some)) fits in
+in_cells_by : (bytes : List ℕ) (file : Shape) (lists : List (List ℤ)) (index channel block : ℕ) (place : FramePlace) (cells : List ℤ) (frame : FlacFrame)
+    → Frame file.info (drop place.at bytes) (Ok frame) → IsPart file lists index frame → channel < file.info.channels
+    → file.info.channels * 65536 ≤ length cells → block ≤ 65536 → HasBlock file.info (drop place.at bytes) block
+    → part cells (channel * block) block ≡ samples_of frame.lists channel → IsInCells file lists cells index channel block
+in_cells_by bytes file lists index channel block place cells frame stands is_part less room few headed samples =
+    let next : channel + 1 ≤ file.info.channels = omega (arith, less) in
+    let most = mul-le (channel + 1) block file.info.channels 65536 next few in
+    let same : block_of frame ≡ block = frame_block file.info (drop place.at bytes) frame block (omega (arith, less)) stands headed in
     record {
-      next = here.next ∙ ap (λ (n : ℕ). samples_before file index + n) block;
-      fits = fits;
-      samples = λ channel less.
-          here.samples channel less ∙ ap (part (samples_of lists channel) (samples_before file index)) block;
+      next = is_part.next ∙ ap (λ (n : ℕ). samples_before file index + n) same;
+      fits = omega (arith, most, room);
+      samples = samples ∙ is_part.samples channel less ∙ ap (part (samples_of lists channel) (samples_before file index)) same;
     }
 
--- ---- a part that is written frame by frame
+-- in whatever way the frame is known
+pub in_cells : (bytes : List ℕ) (file : Shape) (lists : List (List ℤ)) (index channel block : ℕ) (place : FramePlace) (cells : List ℤ)
+    → IsFrameAt bytes file lists index place → channel < file.info.channels
+    → file.info.channels * 65536 ≤ length cells → block ≤ 65536 → HasBlock file.info (drop place.at bytes) block
+    → ((frame : FlacFrame) → Frame file.info (drop place.at bytes) (Ok frame) → part cells (channel * block) block ≡ samples_of frame.lists channel)
+    → IsInCells file lists cells index channel block
+in_cells bytes file lists index channel block place cells is less room few headed samples =
+    let here : HasFrame bytes file lists index place → IsInCells file lists cells index channel block = λ h.
+    in_cells_by bytes file lists index channel block place cells h.0 h.1 h.2 less room few headed (samples h.0 h.1) in
+    let next : channel + 1 ≤ file.info.channels = omega (arith, less) in
+    let most = mul-le (channel + 1) block file.info.channels 65536 next few in
+    record {
+      next = ∥∥₁_elim is.found (Coded-set coded_ℕ _ _) (λ h. (here h).next);
+      fits = omega (arith, most, room);
+      samples = ∥∥₁_elim is.found (Coded-set (coded_list coded_ℤ) _ _) (λ h. (here h).samples);
+    }
 
--- a channel lies in the cells
-pub channel_fits : (channels channel block whole : ℕ) → channel < channels → channels * block ≤ whole → (channel + 1) * block ≤ whole
-channel_fits channels channel block whole less fits =
-    let next : channel + 1 ≤ channels = omega (arith, less) in
-    let same : block ≤ block = omega arith in
-    let more = mul-le (channel + 1) block channels block next same in
-    omega (arith, more, fits)
+-- a frame that is there is read
+pub is_there : (bytes : List ℕ) (file : Shape) (lists : List (List ℤ)) (index : ℕ) (place : FramePlace) → IsFrameAt bytes file lists index place
+    → ((frame : FlacFrame) → Frame file.info (drop place.at bytes) (Ok frame) → ⊥) → ⊥
+is_there bytes file lists index place is none = ∥∥₁_elim is.found ⊥_prop (λ h. none h.0 h.1)
+
+-- ---- a part that is written frame by frame
 
 -- a part of a part
 part_part : (xs : List ℤ) (start size from count : ℕ) → from + count ≤ size → part (part xs start size) from count ≡ part xs (start + from) count

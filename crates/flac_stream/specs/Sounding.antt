@@ -1,12 +1,10 @@
 -- A sound that is read from the frames of a file.
-use Rattle.std.specs.Prelude.{◌≡◌, ◌≤◌, ◌<◌, ◌+◌, ◌*◌, ℕ, ℤ, List, length, drop, map, slice_index_or, Ok, Err}
-use Rattle.std.specs.Simd.{first_chunks}
+use Rattle.std.specs.Prelude.{◌≡◌, ◌≤◌, ◌<◌, ◌+◌, ◌*◌, ℕ, ℤ, List, length, drop, map, slice_index_or, Ok}
 use Rattle.std.specs.Coded.{Coded-set, coded_list, coded_ℤ}
 use Rattle.std.proofs.Math.Logic.{∥∥₁_prop, ∥∥₁_elim}
 use mathlib.Core.HLevel.{Σ_prop_path}
 use Rattle.std.proofs.Common.{ap, sym, ◌∙◌}
 use Rattle.lib_base.specs.Sounds.{part, samples_of}
-use Rattle.file_model.specs.declared.flac_rules.FlacRule.{FlacRule}
 use Rattle.file_model.specs.FlacFile.{block_of, IsFlac}
 use Rattle.file_model.specs.FlacFrame.{FlacFrame, Frame}
 use Rattle.file_model.specs.Pcm.{Pcm}
@@ -44,11 +42,15 @@ pub record IsPart (file : Shape) (lists : List (List ℤ)) (index : ℕ) (frame 
   pub samples : (channel : ℕ) → channel < file.info.channels
       → samples_of frame.lists channel ≡ part (samples_of lists channel) (samples_before file index) (block_of frame)
 
--- What stands at a place of the bytes is a frame, and is that part of the sound.
+-- a frame stands at a place of the bytes, and is that part of the sound
+abbrev pub HasFrame : List ℕ → Shape → List (List ℤ) → ℕ → FramePlace → Type 0
+HasFrame bytes file lists index place =
+    (frame : FlacFrame) × Frame file.info (drop place.at bytes) (Ok frame) × IsPart file lists index frame
+
+-- the frame of a file stands at its place
 pub record IsFrameAt (bytes : List ℕ) (file : Shape) (lists : List (List ℤ)) (index : ℕ) (place : FramePlace) : Type 0 where
   pub inside : place.at ≤ length bytes
-  pub no_other : (rule : FlacRule) → ¬ Frame file.info (drop place.at bytes) (Err rule)
-  pub is_part : (frame : FlacFrame) → Frame file.info (drop place.at bytes) (Ok frame) → IsPart file lists index frame
+  pub found : ∥ HasFrame bytes file lists index place ∥₁
 
 -- The frames of a file stand at their places, and they are the sound of these lists.
 pub record AreFrames (bytes : List ℕ) (file : Shape) (lists : List (List ℤ)) : Type 0 where
@@ -62,10 +64,9 @@ pub record AreFrames (bytes : List ℕ) (file : Shape) (lists : List (List ℤ))
   pub stand : (index : ℕ) (place : FramePlace) → index < length file.places
       → ((other : FramePlace) → place ≡ slice_index_or file.places index other) → IsFrameAt bytes file lists index place
 
--- The frame of this number has so many samples of each channel, and these stand in the cells.
-pub record IsInCells (file : Shape) (lists : List (List ℤ)) (cells : List ℤ) (index block : ℕ) : Type 0 where
+-- The frame of this number has so many samples of each channel, and those of one channel stand in
+-- the cells.
+pub record IsInCells (file : Shape) (lists : List (List ℤ)) (cells : List ℤ) (index channel block : ℕ) : Type 0 where
   pub next : samples_before file (index + 1) ≡ samples_before file index + block
-  pub fits : file.info.channels * block ≤ length cells
-  pub samples : (channel : ℕ) → channel < file.info.channels
-      → samples_of (first_chunks block file.info.channels cells) channel
-      ≡ part (samples_of lists channel) (samples_before file index) block
+  pub fits : (channel + 1) * block ≤ length cells
+  pub samples : part cells (channel * block) block ≡ part (samples_of lists channel) (samples_before file index) block

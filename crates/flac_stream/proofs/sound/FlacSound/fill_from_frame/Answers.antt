@@ -1,7 +1,7 @@
-use Rattle.std.proofs.Common.{◌≡◌, ◌≤◌, ◌+◌, ◌∙◌, length, ap, arith}
+use Rattle.std.proofs.Common.{◌≡◌, ◌≤◌, ◌+◌, ◌*◌, ◌∙◌, length, length-drop, drop, ap, arith}
+use Rattle.std.proofs.lemmas.List.{length-take-le}
 use Rattle.lib_base.specs.Sounds.{part, samples_of}
 use Rattle.flac_stream.specs.Sounding.{samples_before}
-use Rattle.flac_stream.proofs.Hearing.{length-channel}
 use Rattle.flac_stream.proofs.Sounding.{part_more}
 use Rattle.flac_stream.proofs.sound.FlacSound.fill_from_frame.Goals as goal
 
@@ -11,15 +11,17 @@ returns-clause-written c =
     let file = s.file.now in
     let first = samples_before file c.args.frame in
     let size = c.decode-first.result.1 in
-    let cells = c.decode-first.ensures.cells in
+    let in_cells = c.decode-first.ensures.cells in
+    let cells = c.decode-first.new.scratch.cells in
     let samples = c.channel.result.now in
-    let are : samples ≡ part (samples_of s.held.0 c.args.index) first size =
-    c.channel.ensures.list file.info.channels c.requires.channel ∙ cells.samples c.args.index c.requires.channel in
+    let are : samples ≡ part (samples_of s.held.0 c.args.index) first size = c.channel.ensures.cells ∙ in_cells.samples in
+    let rest = length-drop (c.args.index * size) cells in
+    let fits = in_cells.fits in
+    let apart : (c.args.index + 1) * size ≡ c.args.index * size + size = omega arith in
     let long : length samples ≡ size =
-    ap length (c.channel.ensures.list file.info.channels c.requires.channel)
-    ∙ length-channel size file.info.channels c.args.index c.decode-first.new.scratch.cells c.requires.channel cells.fits in
+    ap length c.channel.ensures.cells ∙ length-take-le size (drop (c.args.index * size) cells) (omega (arith, rest, fits, apart)) in
     let is_first = c.decode-first.ensures.first in
-    let next = cells.next in
+    let next = in_cells.next in
     let before = c.requires.before in
     let behind = c.requires.behind in
     let count = c.copy_behind.ensures.count in
