@@ -1,5 +1,5 @@
 -- The sound of a FLAC file that is accepted is a sound.
-use Rattle.std.proofs.Common.{◌≡◌, ◌≤◌, ◌<◌, ◌+◌, ◌-◌, ◌*◌, ◌/◌, ◌^◌, inl, inr, ℕ, zero, suc, Bool, true, false, List, [], ◌∷◌, ◌++◌, length, take, drop, Option, Result, Ok, Err, refl, ap, sym, ◌∙◌, subst, arith}
+use Rattle.std.proofs.Common.{◌≡◌, ◌≤◌, ◌<◌, ◌+◌, ◌*◌, inl, inr, ℕ, zero, suc, Bool, List, [], ◌∷◌, length, take, drop, Option, Ok, refl, ap, sym, subst, arith}
 use Rattle.std.specs.Prelude.{ℤ, ◌==◌, nat_le, All, IfSome}
 use Rattle.std.proofs.lemmas.Bool.{eqb-true, leb-true}
 use Rattle.std.proofs.lemmas.List.{length_push}
@@ -8,20 +8,19 @@ use Rattle.std.proofs.lemmas.Nat.{mul-le}
 use Rattle.lib_base.specs.Sounds.{IsSample, IsSound, samples_of}
 use Rattle.file_model.specs.declared.flac_fields.TheConstants.{MOST_SAMPLES}
 use Rattle.file_model.specs.declared.flac_info.Info.{Info}
-use Rattle.file_model.specs.declared.flac_rules.FlacRule.{FlacRule}
 use Rattle.file_model.specs.declared.flac_rules.FlacRule.TheVariants.{FrameRate, FrameChannels, FrameDepth, HeaderCheck, FrameCheck, TooManySamples, OtherTotal, OtherMd5}
 use Rattle.file_model.specs.Bits.{bits}
 use Rattle.file_model.specs.Crc.{crc8, crc16}
 use Rattle.file_model.specs.Fields.{field, coded_at, align_at}
-use Rattle.file_model.specs.FlacFile.{FlacBlock, breaks_at, is_total, is_md5, block_of, blocks_of, channel_in, channels_in, first_content, info_at, NextFrame, FramesUpTo, sound_in, sound_at, IsFlacOf, IsFlac}
+use Rattle.file_model.specs.FlacFile.{FlacBlock, breaks_at, is_total, is_md5, block_of, blocks_of, channel_in, channels_in, first_content, NextFrame, FramesUpTo, sound_in, sound_at, IsFlacOf, IsFlac}
 use Rattle.file_model.specs.FlacFrame.{FlacFrame, footer_at, Body, Frame}
 use Rattle.file_model.specs.FlacHeader.{FlacHeader, of_frame, bytes_before, codes_at, size_at, rate_at, channels_of, stereo_of, depth_of, header_at}
-use Rattle.file_model.specs.Outcomes.{◌>>=◌, holds}
+use Rattle.file_model.specs.Outcomes.{holds}
 use Rattle.file_model.specs.Pcm.{Pcm}
 use Rattle.flac_frames.proofs.Residuals.{ok_is}
 use Rattle.flac_frames.proofs.Stereos.{two_channels}
 use Rattle.flac_frames.proofs.Wholes.{both_give}
-use Rattle.flac_stream.specs.Frames.{IsEven, AreEven}
+use Rattle.flac_stream.specs.Frames.{AreEven}
 use Rattle.flac_stream.proofs.FrameSounds.{held_fact, IsLong, AreWithin, AreChannels, sounding_channels}
 use Rattle.flac_stream.proofs.Hearing.{blocks_of-cons, length-channel_in}
 use Rattle.flac_stream.proofs.Infos.{IsWithin, info_fits}

@@ -1,20 +1,18 @@
 -- A frame has as many samples in each channel as its block, each within the depth.
-use Rattle.std.proofs.Common.{◌≡◌, ◌≤◌, ◌<◌, ◌+◌, ◌-◌, ◌*◌, ◌/◌, ◌%◌, ◌^◌, inl, inr, ◌⊎◌, ℕ, zero, suc, Bool, true, false, eqb, List, [], ◌∷◌, ◌++◌, length, length-append, Option, None, Some, Result, Ok, Err, refl, ap, sym, ◌∙◌, subst, arith}
-use Rattle.std.specs.Prelude.{ℤ, pos, ◌*ℤ◌, ◌==◌, ◌&&◌, not, nat_le, nat_lt, if◌then◌else◌, map, replicate, All, IfSome, unsigned_abs}
-use Rattle.std.specs.Int.{is_negative}
+use Rattle.std.proofs.Common.{◌≡◌, ◌≤◌, ◌<◌, ◌+◌, ◌-◌, ◌*◌, ◌/◌, ◌%◌, ◌^◌, inl, inr, ◌⊎◌, ℕ, zero, suc, Bool, true, false, List, [], ◌∷◌, length, length-append, Option, None, Some, Result, Ok, refl, ap, sym, ◌∙◌, subst, arith}
+use Rattle.std.specs.Prelude.{ℤ, pos, ◌*ℤ◌, ◌==◌, ◌&&◌, nat_le, nat_lt, if◌then◌else◌, replicate, All, IfSome}
 use Rattle.std.proofs.lemmas.Bool.{and_parts, eqb-true, leb-true, ltb-true}
 use Rattle.std.proofs.lemmas.List.{length-map, length-replicate}
-use Rattle.std.proofs.lemmas.List.Elements.{All-nil, All-cons, All-head, All-tail, All-map, All-weaker}
+use Rattle.std.proofs.lemmas.List.Elements.{All-nil, All-cons, All-head, All-map, All-weaker}
 use Rattle.std.proofs.lemmas.Nat.{pow_pos, shr_split}
-use Rattle.lib_base.specs.Sounds.{IsSample, samples_of}
-use Rattle.file_model.specs.declared.flac_info.Info.{Info}
+use Rattle.lib_base.specs.Sounds.{IsSample}
 use Rattle.file_model.specs.declared.flac_rules.FlacRule.{FlacRule}
 use Rattle.file_model.specs.declared.flac_rules.FlacRule.TheVariants.{SubframeBit, WastedBits, PredictorOrder, OtherPartitions}
 use Rattle.file_model.specs.declared.pairs.Stereo.{Stereo}
 use Rattle.file_model.specs.Fields.{field, signed_field}
-use Rattle.file_model.specs.FlacFrame.{FlacFrame, depths_of, Channels, IsPairOf, Sounding}
+use Rattle.file_model.specs.FlacFrame.{depths_of, Channels, IsPairOf, Sounding}
 use Rattle.file_model.specs.FlacHeader.{of_frame}
-use Rattle.file_model.specs.Outcomes.{◌>>=◌, holds, times_at}
+use Rattle.file_model.specs.Outcomes.{holds, times_at}
 use Rattle.file_model.specs.Subframe.{Coding, constant, verbatim, fixed, linear, Coded, coding_of, order_of, wasted_at, partition_at, partitions_at, residuals_at, samples_at, predictor_at, content_at, subframe_head_at, subframe_at, IsSpelledBy, Channel}
 use Rattle.flac_frames.proofs.Residuals.{ok_is}
 use Rattle.flac_frames.proofs.Subframes.{shifted_within}

@@ -1,7 +1,6 @@
 -- Where the frames of a file stand, and which part of its sound each of them has.
-use Rattle.std.proofs.Common.{◌≡◌, ◌≤◌, ◌<◌, ◌+◌, ◌-◌, ◌*◌, inl, inr, ℕ, zero, suc, min, List, [], ◌∷◌, ◌++◌, length, length-drop, take, drop, map, get_or, Result, Ok, Err, refl, ap, sym, ◌∙◌, subst, arith}
-use Rattle.std.specs.Prelude.{ℤ, pos}
-use Rattle.std.specs.Simd.{first_chunks}
+use Rattle.std.proofs.Common.{◌≡◌, ◌≤◌, ◌<◌, ◌+◌, ◌-◌, ◌*◌, inl, inr, ℕ, zero, suc, List, [], ◌∷◌, ◌++◌, length, length-drop, take, drop, map, get_or, Ok, Err, refl, ap, sym, ◌∙◌, subst, arith}
+use Rattle.std.specs.Prelude.{ℤ}
 use Rattle.std.specs.Coded.{Coded-set, coded_list, coded_ℤ}
 use Rattle.std.proofs.Math.Logic.{∥∥₁_elim}
 use Rattle.std.proofs.lemmas.Bool.{cases_lt}
@@ -10,7 +9,6 @@ use Rattle.std.proofs.lemmas.List.{take_at, drop_at, length-take-le, drop-drop, 
 use Rattle.std.proofs.Math.Seq.{take-add}
 use Rattle.lib_base.specs.Sounds.{IsSound, part, samples_of}
 use Rattle.file_model.specs.declared.flac_info.Info.{Info}
-use Rattle.file_model.specs.declared.flac_rules.FlacRule.{FlacRule}
 use Rattle.file_model.specs.FlacFile.{block_of, blocks_of, channel_in, channels_in, first_content, FramesUpTo, IsFlac}
 use Rattle.file_model.specs.FlacFrame.{FlacFrame, Frame}
 use Rattle.file_model.specs.Pcm.{Pcm}

@@ -20,6 +20,8 @@ mod ordinary_tests;
 mod rules;
 mod sound;
 #[cfg(test)]
+mod sound_tests;
+#[cfg(test)]
 mod tests;
 
 pub use blocks::Block;

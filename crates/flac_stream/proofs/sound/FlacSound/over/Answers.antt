@@ -14,4 +14,4 @@ invariant_of-result c =
     }
 
 pub returns-clause-lists : goal.returns-clause-lists
-returns-clause-lists c = λ sound flac. lists_kept c.args.bytes.now c.result-1.given.0 sound flac
+returns-clause-lists c = λ sound flac. search (lists_kept, flac)
