@@ -1,8 +1,7 @@
 #!/bin/bash
 # Reads files that the ordinary FLAC encoder made, and compares the MD5 of their samples with that of
-# the ordinary decoder's. Then it damages some, and looks that each is refused, or read as the same sound, in
-# time. Where
-# `flac` or `python3` is not here, nothing is tried, and it says so.
+# the ordinary decoder's. Then it damages some, and looks that each is refused, or read as the same
+# sound, in time. Where `flac`, `metaflac` or `python3` is not here, nothing is tried, and it says so.
 #
 # usage: scripts/ordinary-flacs.sh
 set -eu
