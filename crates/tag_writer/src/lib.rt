@@ -5,9 +5,11 @@
 //! they break first, at its place.
 #![tactic(auto)]
 
+mod any_sound;
 mod comments;
 mod files;
 #[cfg(test)]
 mod tests;
 
+pub use any_sound::AnySound;
 pub use files::{Accepted, accept};
