@@ -1,50 +1,48 @@
 //! What requests ask, what changes want, and their marks. Memory is ample here.
 use crate::{Asking, Field, ask_for, mark_of, name_asked, wanted};
 use http_inbox::{HeadRead, Inbox};
-use http_model::{AskingRefusal, Command, Question, Wanted};
-use http_routes::{Paths, Resource};
+use http_model::{Command, Question, Wanted};
+use http_routes::{Paths, Resource, Route};
 use lib_base::{Bytes, MemSource, Memory};
 use std::alloc::Global;
 use std::test::Fail;
 
-/// What a request asks: a refusal, with the methods that it names, a question, or a change.
-type Told = (
-    Option<AskingRefusal>,
-    &'static str,
-    Option<Question>,
-    Option<Resource>,
-);
-
-const NO_ROUTE: Told = (Some(AskingRefusal::NoRoute), "", None, None);
-
-const NO_TOKEN: Told = (Some(AskingRefusal::Token), "", None, None);
-
-fn no_method(allowed: &'static str) -> Told {
-    (Some(AskingRefusal::Method), allowed, None, None)
-}
-
-fn asks(question: Question) -> Told {
-    (None, "", Some(question), None)
-}
-
-fn changes(resource: Resource) -> Told {
-    (None, "", None, Some(resource))
-}
+/// What a request asks: a word for it, the methods that its reply names, and the id that it names.
+type Told = (&'static str, &'static str, u32);
 
 fn told(asking: Asking<'_>) -> Told {
     match asking {
-        Asking::Refused { cause, allows } => {
-            (
-                Some(cause),
-                allows.map_or("", |route| route.allowed()),
-                None,
-                None,
-            )
-        }
-        Asking::Question(question) => (None, "", Some(question), None),
-        Asking::Change { resource, .. } => (None, "", None, Some(resource)),
+        Asking::Refused { cause, allows } => (cause.word(), named(allows), 0),
+        Asking::Question(Question::Recording(id)) => ("recording?", "", id),
+        Asking::Question(Question::Album(id)) => ("album?", "", id),
+        Asking::Change { resource, .. } => changed(resource),
     }
 }
+
+fn named(allows: Option<Route>) -> &'static str {
+    match allows {
+        Some(route) => route.allowed(),
+        None => "",
+    }
+}
+
+fn changed(resource: Resource) -> Told {
+    match resource {
+        Resource::Albums => ("albums", "", 0),
+        Resource::Recordings => ("recordings", "", 0),
+        Resource::AlbumRecordings(id) => ("recordings of album", "", id),
+        Resource::Audio(id) => ("audio", "", id),
+        Resource::RecordingAlbum(id) => ("album of recording", "", id),
+        Resource::Recording(id) => ("recording", "", id),
+        Resource::Album(id) => ("album", "", id),
+    }
+}
+
+const LONGEST: &str =
+    "Request-Token: 0123456789012345678901234567890123456789012345678901234567890123\r\n";
+
+const TOO_LONG: &str =
+    "Request-Token: 01234567890123456789012345678901234567890123456789012345678901234\r\n";
 
 /// What the request of that line and these header lines asks, if its head is one.
 fn ask(alloc: Global, paths: &Paths, line: &str, fields: &str) -> Result<Option<Told>, Memory> {
@@ -61,82 +59,70 @@ fn ask(alloc: Global, paths: &Paths, line: &str, fields: &str) -> Result<Option<
 fn requests_ask(rt: HostRuntime) -> Result<(), Fail> {
     let alloc = rt.alloc();
     let paths = Paths::new(alloc)?;
-    let digits = String::from_utf8(Vec::from_slice(alloc, [b'1'; 300].as_slice())?)?;
-    let long = format!(in alloc; "GET /recordings/{digits}")?;
-    let longest = format!(in alloc; "Request-Token: {}\r\n", digits.as_str().split_at(64).0)?;
-    let too_long = format!(in alloc; "Request-Token: {}\r\n", digits.as_str().split_at(65).0)?;
+    let mut long = String::from_str(alloc, "GET /recordings/")?;
+    for _ in 0..300 {
+        long.push_str("1")?;
+    }
     let token = "Request-Token: a-Z9\r\n";
     for (line, fields, want) in [
-        ("GET /", "", NO_ROUTE),
-        ("GET /groups", "", NO_ROUTE),
-        ("POST /albums/", token, NO_ROUTE),
-        ("GET /recordings/1/", "", NO_ROUTE),
-        ("GET /recordings/1/file", "", NO_ROUTE),
-        ("POST /recordings?x=1", token, NO_ROUTE),
-        ("POST //recordings", token, NO_ROUTE),
-        ("PATCH /albums", token, no_method("POST")),
-        ("GET /recordings", "", no_method("POST")),
-        ("HEAD /albums/1/recordings", "", no_method("POST")),
-        ("POST /recordings/1/audio", token, no_method("PUT")),
-        ("PATCH /recordings/1/album", token, no_method("PUT")),
-        ("HEAD /recordings/1", "", no_method("GET, DELETE")),
-        ("PUT /albums/1", token, no_method("GET, DELETE")),
-        ("get /albums/1", "", no_method("GET, DELETE")),
-        ("GET /recordings/12", "", asks(Question::Recording(12))),
-        (
-            "GET /albums/2147483646",
-            "",
-            asks(Question::Album(2_147_483_646)),
-        ),
-        (
-            "GET /recordings/2147483647",
-            "",
-            asks(Question::Recording(0)),
-        ),
-        ("GET /recordings/-1", "", asks(Question::Recording(0))),
-        ("GET /albums/+1", "", asks(Question::Album(0))),
-        (long.as_str(), "", asks(Question::Recording(0))),
-        ("POST /albums", token, changes(Resource::Albums)),
-        ("POST /recordings", token, changes(Resource::Recordings)),
+        ("GET /", "", ("no-route", "", 0)),
+        ("GET /groups", "", ("no-route", "", 0)),
+        ("POST /albums/", token, ("no-route", "", 0)),
+        ("GET /recordings/1/", "", ("no-route", "", 0)),
+        ("GET /recordings/1/file", "", ("no-route", "", 0)),
+        ("POST /recordings?x=1", token, ("no-route", "", 0)),
+        ("POST //recordings", token, ("no-route", "", 0)),
+        ("PATCH /albums", token, ("method", "POST", 0)),
+        ("GET /recordings", "", ("method", "POST", 0)),
+        ("HEAD /albums/1/recordings", "", ("method", "POST", 0)),
+        ("POST /recordings/1/audio", token, ("method", "PUT", 0)),
+        ("PATCH /recordings/1/album", token, ("method", "PUT", 0)),
+        ("HEAD /recordings/1", "", ("method", "GET, DELETE", 0)),
+        ("PUT /albums/1", token, ("method", "GET, DELETE", 0)),
+        ("get /albums/1", "", ("method", "GET, DELETE", 0)),
+        ("GET /recordings/12", "", ("recording?", "", 12)),
+        ("GET /albums/2147483646", "", ("album?", "", 2_147_483_646)),
+        ("GET /recordings/2147483647", "", ("recording?", "", 0)),
+        ("GET /recordings/-1", "", ("recording?", "", 0)),
+        ("GET /albums/+1", "", ("album?", "", 0)),
+        (long.as_str(), "", ("recording?", "", 0)),
+        ("POST /albums", token, ("albums", "", 0)),
+        ("POST /recordings", token, ("recordings", "", 0)),
         (
             "POST /albums/7/recordings",
             token,
-            changes(Resource::AlbumRecordings(7)),
+            ("recordings of album", "", 7),
         ),
         (
             "POST /albums/01/recordings",
             token,
-            changes(Resource::AlbumRecordings(0)),
+            ("recordings of album", "", 0),
         ),
-        (
-            "PUT /recordings/7/audio",
-            token,
-            changes(Resource::Audio(7)),
-        ),
+        ("PUT /recordings/7/audio", token, ("audio", "", 7)),
         (
             "PUT /recordings/x/album",
             token,
-            changes(Resource::RecordingAlbum(0)),
+            ("album of recording", "", 0),
         ),
+        ("DELETE /recordings/7", token, ("recording", "", 7)),
+        ("DELETE /albums/7", LONGEST, ("album", "", 7)),
+        ("DELETE /albums/7", TOO_LONG, ("token", "", 0)),
+        ("DELETE /albums/7", "", ("token", "", 0)),
+        ("DELETE /albums/7", "Request-Token: \r\n", ("token", "", 0)),
         (
-            "DELETE /recordings/7",
-            token,
-            changes(Resource::Recording(7)),
+            "DELETE /albums/7",
+            "Request-Token: a_b\r\n",
+            ("token", "", 0),
         ),
         (
             "DELETE /albums/7",
-            longest.as_str(),
-            changes(Resource::Album(7)),
+            "Request-Token: \u{fc}\r\n",
+            ("token", "", 0),
         ),
-        ("DELETE /albums/7", too_long.as_str(), NO_TOKEN),
-        ("DELETE /albums/7", "", NO_TOKEN),
-        ("DELETE /albums/7", "Request-Token: \r\n", NO_TOKEN),
-        ("DELETE /albums/7", "Request-Token: a_b\r\n", NO_TOKEN),
-        ("DELETE /albums/7", "Request-Token: \u{fc}\r\n", NO_TOKEN),
         (
             "DELETE /albums/7",
             "Request-Token: a\r\nrequest-token: a\r\n",
-            NO_TOKEN,
+            ("token", "", 0),
         ),
     ] {
         assert_eq!(rt;
@@ -275,17 +261,6 @@ fn changes_want(rt: HostRuntime) -> Result<(), Fail> {
             "{line} {fields} {body}"
         );
     }
-    for (name, is) in [
-        (Field::Absent, true),
-        (Field::Value(b""), true),
-        (Field::Value([b'n'; 200].as_slice()), true),
-        (Field::Value([b'n'; 201].as_slice()), false),
-        (Field::Value(b"a\x1f"), false),
-        (Field::Value(b"\xc3"), false),
-        (Field::Repeated, false),
-    ] {
-        assert_eq!(rt; name_asked(alloc, name)?.is_some(), is);
-    }
     Ok(())
 }
 
@@ -329,6 +304,23 @@ fn requests_have_marks(rt: HostRuntime) -> Result<(), Fail> {
             body.as_bytes(),
         );
         assert_eq!(rt; found, mark.to_be_bytes(), "{method} {target}");
+    }
+    Ok(())
+}
+
+#[test]
+fn imports_have_names(rt: HostRuntime) -> Result<(), Fail> {
+    let alloc = rt.alloc();
+    for (name, is) in [
+        (Field::Absent, true),
+        (Field::Value(b""), true),
+        (Field::Value([b'n'; 200].as_slice()), true),
+        (Field::Value([b'n'; 201].as_slice()), false),
+        (Field::Value(b"a\x1f"), false),
+        (Field::Value(b"\xc3"), false),
+        (Field::Repeated, false),
+    ] {
+        assert_eq!(rt; name_asked(alloc, name)?.is_some(), is);
     }
     Ok(())
 }
