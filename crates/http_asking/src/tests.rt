@@ -134,35 +134,42 @@ fn requests_ask(rt: HostRuntime) -> Result<(), Fail> {
     Ok(())
 }
 
-/// What is wanted: what it is, the id that it names, an album, a name, and its bytes.
-fn shown(wanted: &Wanted) -> (&'static str, u32, Option<u32>, &str, &[u8]) {
+/// What is wanted: a word for it, the id that it names, an album, and the lengths of its name and of
+/// its bytes.
+type Shown = (&'static str, u32, Option<u32>, usize, usize);
+
+fn shown(wanted: &Wanted) -> Shown {
     match wanted {
-        Wanted::Malformed(reply) => {
-            (
-                "malformed",
-                u32::from(reply.status),
-                None,
-                "",
-                reply.body.as_slice(),
-            )
+        Wanted::Malformed(reply) => (cause_of(reply.body.as_slice()), 0, None, 0, 0),
+        Wanted::Command(Command::NewAlbum { name }) => {
+            ("new album", 0, None, name.as_str().len(), 0)
         }
-        Wanted::Command(Command::NewAlbum { name }) => ("new album", 0, None, name.as_str(), b""),
         Wanted::Command(Command::Import { album, name, bytes }) => {
-            ("import", 0, *album, name.as_str(), bytes.as_slice())
+            ("import", 0, *album, name.as_str().len(), bytes.len())
         }
         Wanted::Command(Command::Retake { recording, bytes }) => {
-            ("retake", *recording, None, "", bytes.as_slice())
+            ("retake", *recording, None, 0, bytes.len())
         }
         Wanted::Command(Command::Regroup { recording, album }) => {
-            ("regroup", *recording, *album, "", b"")
+            ("regroup", *recording, *album, 0, 0)
         }
-        Wanted::Command(Command::RemoveRecording(id)) => ("remove recording", *id, None, "", b""),
-        Wanted::Command(Command::RemoveAlbum(id)) => ("remove album", *id, None, "", b""),
+        Wanted::Command(Command::RemoveRecording(id)) => ("remove recording", *id, None, 0, 0),
+        Wanted::Command(Command::RemoveAlbum(id)) => ("remove album", *id, None, 0, 0),
     }
 }
 
-/// What a request wants of that line, under that name and with that body.
-fn want(alloc: Global, line: &str, fields: &str, body: &str) -> Result<Option<Wanted>, Memory> {
+fn cause_of(body: &[u8]) -> &'static str {
+    if body == br#"{"error":"name"}"#.as_slice() {
+        "name"
+    } else if body == br#"{"error":"body"}"#.as_slice() {
+        "body"
+    } else {
+        "other"
+    }
+}
+
+/// What a request of that line, these header lines and that body wants.
+fn wants(alloc: Global, line: &str, fields: &str, body: &str) -> Result<Option<Shown>, Memory> {
     let head = format!(in alloc; "{line} HTTP/1.1\r\nRequest-Token: t\r\n{fields}\r\n")?;
     let body = Bytes::copy(alloc, body.as_bytes())?;
     let paths = Paths::new(alloc)?;
@@ -172,7 +179,8 @@ fn want(alloc: Global, line: &str, fields: &str, body: &str) -> Result<Option<Wa
         HeadRead::Head(heading) => {
             match ask_for(&paths, inbox.bytes(), &heading, body.as_slice()) {
                 Asking::Change { resource, .. } => {
-                    Ok(Some(wanted(alloc, resource, inbox.bytes(), &heading, body)?))
+                    let wanted = wanted(alloc, resource, inbox.bytes(), &heading, body)?;
+                    Ok(Some(shown(&wanted)))
                 }
                 Asking::Refused { .. } | Asking::Question(_) => Ok(None),
             }
@@ -184,82 +192,70 @@ fn want(alloc: Global, line: &str, fields: &str, body: &str) -> Result<Option<Wa
 #[test]
 fn changes_want(rt: HostRuntime) -> Result<(), Fail> {
     let alloc = rt.alloc();
-    let no_name = (
-        "malformed",
-        400,
-        None,
-        "",
-        br#"{"error":"name"}"#.as_slice(),
-    );
-    let no_body = (
-        "malformed",
-        400,
-        None,
-        "",
-        br#"{"error":"body"}"#.as_slice(),
-    );
     let two = "Recording-Name: A\r\nrecording-name: A\r\n";
-    for (line, fields, body, wants) in [
+    let umlaut = "Recording-Name: F\u{fc}r\r\n";
+    for (line, fields, body, want) in [
         (
             "POST /albums",
             two,
             r#"{"name":"B"}"#,
-            ("new album", 0, None, "B", b"".as_slice()),
+            ("new album", 0, None, 1, 0),
         ),
-        ("POST /albums", "", r#"{"name":1}"#, no_body),
-        ("POST /recordings", "", "R", ("import", 0, None, "", b"R")),
-        (
-            "POST /recordings",
-            "Recording-Name: F\u{fc}r\r\n",
-            "",
-            ("import", 0, None, "F\u{fc}r", b""),
-        ),
-        ("POST /recordings", two, "R", no_name),
-        ("POST /albums/0/recordings", two, "R", no_name),
+        ("POST /albums", "", r#"{"name":1}"#, ("body", 0, None, 0, 0)),
+        ("POST /recordings", "", "RI", ("import", 0, None, 0, 2)),
+        ("POST /recordings", umlaut, "", ("import", 0, None, 4, 0)),
+        ("POST /recordings", two, "RI", ("name", 0, None, 0, 0)),
         (
             "POST /albums/3/recordings",
-            "Recording-Name: A\r\n",
-            "R",
-            ("import", 0, Some(3), "A", b"R"),
+            umlaut,
+            "RI",
+            ("import", 0, Some(3), 4, 2),
+        ),
+        (
+            "POST /albums/0/recordings",
+            two,
+            "RI",
+            ("name", 0, None, 0, 0),
         ),
         (
             "PUT /recordings/3/audio",
             two,
-            "R",
-            ("retake", 3, None, "", b"R"),
+            "RI",
+            ("retake", 3, None, 0, 2),
         ),
         (
             "PUT /recordings/3/album",
             "",
             r#"{"album":4}"#,
-            ("regroup", 3, Some(4), "", b""),
+            ("regroup", 3, Some(4), 0, 0),
         ),
         (
             "PUT /recordings/3/album",
             "",
             r#"{"album":null}"#,
-            ("regroup", 3, None, "", b""),
+            ("regroup", 3, None, 0, 0),
         ),
-        ("PUT /recordings/3/album", "", r#"{"album":0}"#, no_body),
+        (
+            "PUT /recordings/3/album",
+            "",
+            r#"{"album":0}"#,
+            ("body", 0, None, 0, 0),
+        ),
         (
             "DELETE /recordings/3",
             two,
-            "R",
-            ("remove recording", 3, None, "", b""),
+            "RI",
+            ("remove recording", 3, None, 0, 0),
         ),
         (
             "DELETE /albums/3",
             "",
-            "R",
-            ("remove album", 3, None, "", b""),
+            "RI",
+            ("remove album", 3, None, 0, 0),
         ),
     ] {
-        let wanted = want(alloc, line, fields, body)?;
-        assert_eq!(rt;
-            wanted.as_ref().map(shown),
-            Some(wants),
-            "{line} {fields} {body}"
-        );
+        let found = wants(alloc, line, fields, body)?;
+        assert_eq!(rt; found, Some(want), "{line} {fields} {body}");
     }
     Ok(())
 }
