@@ -64,6 +64,36 @@ compare "$flac" rice4 5000 80000 "$work/bits" "C"
 compare "$flac" rice10 10000 40000 "$work/bits" "C"
 compare "$flac" crc16 50000 65536 "$work/bits" "C"
 
+# ---- ten minutes of stereo, read whole, with both checks and the MD5, beside `flac -t`; and filled from
+
+# the median of the times of some runs
+median_time() {
+    local run
+    for ((run = 0; run < (runs + 1) / 2; run++)); do timed "$@"; done | sort -n | awk '{ t[NR] = $1 } END { print t[int((NR + 1) / 2)] }'
+}
+
+if command -v flac >/dev/null; then
+    gcc -O2 -o "$work/music" bench/music.c -lm
+    for bits in 16 24; do
+        "$work/music" $bits 600 >"$work/music.raw"
+        for level in 5 8; do
+            file=$work/music.flac
+            flac -s -f -$level --force-raw-format --bps=$bits --channels=2 --sample-rate=48000 --endian=little \
+                --sign=signed -o "$file" "$work/music.raw"
+            read=$(median_time "$flac" read "$file")
+            test=$(median_time flac -s -t "$file")
+            fill=$(median_time "$flac" fill "$file")
+            awk -v name="$bits bits, level $level" -v read="$read" -v test="$test" -v fill="$fill" 'BEGIN {
+                samples = 600 * 48000 * 2 / 1e9
+                printf "a whole read of %s beside flac -t: %.2f times its time (%.1f and %.1f ns a sample); ", name, read / test, read / samples, test / samples
+                printf "filling both channels: %.2f times a whole read\n", (fill - read) / read
+            }'
+        done
+    done
+else
+    echo 'a whole read of FLAC: skipped, flac is not here'
+fi
+
 # ---- a session of one import that nearly fills the input's limit: a wave of noise, two channels of 16 bits
 
 # a number as four bytes, the lowest first

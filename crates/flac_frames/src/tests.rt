@@ -15,19 +15,6 @@ const MONO: Info = Info {
 /// The header of a block of 16 samples, of seven bytes.
 const HEADER: [u8; 7] = [0xFF, 0xF8, 0x6A, 0x08, 0x00, 0x0F, 0x0A];
 
-#[test]
-fn a_header_behind_other_bytes(rt: HostRuntime) {
-    let bytes = [1, 2, 3, 0xFF, 0xF8, 0x6A, 0x08, 0x00, 0x0F, 0x0A];
-    assert_eq!(rt;
-        read_header(&bytes, 3, &MONO),
-        Ok(Header {
-            length: 7,
-            block: 16,
-            stereo: None
-        })
-    );
-}
-
 /// The refusal by a rule, at the start.
 fn by_rule(rule: FlacRule) -> Result<Header, Broken> {
     Err(Broken {
@@ -36,64 +23,60 @@ fn by_rule(rule: FlacRule) -> Result<Header, Broken> {
     })
 }
 
-/// Each row: the place of a byte, the other byte there, and the rule that it breaks.
+/// Each row: the place of a byte, the other byte there, and the rule that the header then breaks.
+const EDITS: [(usize, u8, FlacRule); 11] = [
+    (1, 0xF0, FlacRule::LostSync),
+    (2, 0x0A, FlacRule::ReservedBlockSize),
+    (2, 0x6F, FlacRule::ForbiddenRate),
+    (3, 0xB8, FlacRule::ReservedChannels),
+    (3, 0x06, FlacRule::ReservedDepth),
+    (3, 0x09, FlacRule::ReservedBit),
+    (4, 0x80, FlacRule::OtherCodedNumber),
+    (2, 0x69, FlacRule::FrameRate),
+    (3, 0x18, FlacRule::FrameChannels),
+    (3, 0x02, FlacRule::FrameDepth),
+    (6, 0x0B, FlacRule::HeaderCheck),
+];
+
+/// Edits of a header, and one that ends at each of its bytes and before the first.
 #[test]
-fn each_edit_breaks_its_rule(rt: HostRuntime) {
-    let edits = [
-        (1, 0xF0, FlacRule::LostSync),
-        (2, 0x0A, FlacRule::ReservedBlockSize),
-        (2, 0x6F, FlacRule::ForbiddenRate),
-        (3, 0xB8, FlacRule::ReservedChannels),
-        (3, 0x06, FlacRule::ReservedDepth),
-        (3, 0x09, FlacRule::ReservedBit),
-        (4, 0x80, FlacRule::OtherCodedNumber),
-        (2, 0x69, FlacRule::FrameRate),
-        (3, 0x18, FlacRule::FrameChannels),
-        (3, 0x02, FlacRule::FrameDepth),
-        (6, 0x0B, FlacRule::HeaderCheck),
-    ];
-    for (place, byte, rule) in edits {
+fn headers_that_are_refused(rt: HostRuntime) {
+    for (place, byte, rule) in EDITS {
         assert!(rt; place < 7);
         let mut bytes = HEADER;
         bytes[place] = byte;
-        assert_eq!(rt;
-            read_header(&bytes, 0, &MONO),
-            by_rule(rule),
-            "byte {place} as {byte}"
-        );
+        let read = read_header(&bytes, 0, &MONO);
+        assert_eq!(rt; read, by_rule(rule), "byte {place} as {byte}");
     }
-}
-
-/// A header that ends at each of its bytes, and before the first.
-#[test]
-fn cut_headers(rt: HostRuntime) {
     for length in 0..HEADER.len() {
-        assert_eq!(rt;
-            read_header(&HEADER[..length], 0, &MONO),
-            by_rule(FlacRule::CutFrame),
-            "{length} bytes"
-        );
+        let read = read_header(&HEADER[..length], 0, &MONO);
+        assert_eq!(rt; read, by_rule(FlacRule::CutFrame), "{length} bytes");
     }
 }
 
-/// Mid and side, a block of 65,536, a number spelled in two bytes, and the rate in tens of Hz.
+/// A header behind other bytes; and mid and side, a block of 65,536, a number spelled in two bytes,
+/// and the rate in tens of Hz.
 #[test]
-fn fields_behind_the_number(rt: HostRuntime) {
+fn headers_that_are_read(rt: HostRuntime) {
+    let bytes = [1, 2, 3, 0xFF, 0xF8, 0x6A, 0x08, 0x00, 0x0F, 0x0A];
+    let mono = Header {
+        length: 7,
+        block: 16,
+        stereo: None,
+    };
+    assert_eq!(rt; read_header(&bytes, 3, &MONO), Ok(mono));
     let info = Info {
         channels: 2,
         ..MONO
     };
-    let bytes = [
+    let mut bytes = [
         0xFF, 0xF9, 0x7E, 0xA8, 0xC0, 0x80, 0xFF, 0xFF, 0x12, 0xC0, 0x00,
     ];
-    let mut checked = bytes;
-    checked[10] = bit_codec::crc8(&bytes[..10]);
-    assert_eq!(rt;
-        read_header(&checked, 0, &info),
-        Ok(Header {
-            length: 11,
-            block: 65_536,
-            stereo: Some(Stereo::MidSide)
-        })
-    );
+    bytes[10] = bit_codec::crc8(&bytes[..10]);
+    let pair = Header {
+        length: 11,
+        block: 65_536,
+        stereo: Some(Stereo::MidSide),
+    };
+    assert_eq!(rt; read_header(&bytes, 0, &info), Ok(pair));
 }

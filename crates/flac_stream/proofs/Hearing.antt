@@ -52,7 +52,7 @@ length-channel_in channels channel (x ∷ xs) are less =
     ∙ ap (λ (n : ℕ). n + length (channel_in xs channel)) (are.0 channel less)
     ∙ ap (λ (n : ℕ). block_of x + n) (length-channel_in channels channel xs are.1 less) ∙ sym (blocks_of-cons x xs)
 
-channel_in-push : (frames : List FlacFrame) (frame : FlacFrame) (channel : ℕ)
+pub channel_in-push : (frames : List FlacFrame) (frame : FlacFrame) (channel : ℕ)
     → channel_in (frames ++ frame ∷ []) channel ≡ channel_in frames channel ++ samples_of frame.lists channel
 channel_in-push frames frame channel =
     flat_map-append (λ (f : FlacFrame). samples_of f.lists channel) frames (frame ∷ [])

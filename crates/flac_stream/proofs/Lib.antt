@@ -5,6 +5,7 @@ pub mod FrameSounds
 pub mod Framing
 pub mod Hearing
 pub mod Infos
+pub mod Listing
 pub mod NextFrames
 pub mod Openings
 pub mod Sounding

@@ -1,13 +1,15 @@
 -- Frames as they are kept while a file is read, and the MD5 of their samples.
 use Rattle.std.specs.Prelude.{◌≡◌, ◌≤◌, ◌<◌, ◌+◌, ◌*◌, ◌/◌, ℕ, ℤ, Bool, true, not, nat_eq, List, [], ◌∷◌, ◌++◌, length, take, drop, ⊤, Ok}
-use Rattle.std.specs.List.{list_all}
+use Rattle.std.specs.List.{flat_map, list_all}
 use Rattle.std.specs.Int.{w32, cast_unsigned}
+use Rattle.std.specs.Simd.{first_chunks}
 use Rattle.md5.specs.Md5.{Holds}
 use Rattle.lib_base.specs.Sounds.{samples_of}
 use Rattle.file_model.specs.declared.flac_info.Info.{Info}
 use Rattle.file_model.specs.Chunks.{four_bytes}
 use Rattle.file_model.specs.FlacFile.{FlacBlock, IsHead, first_content, info_at, block_of, blocks_of, FramesUpTo, sound_in, bytes_of}
 use Rattle.file_model.specs.FlacFrame.{FlacFrame}
+use Rattle.file_model.specs.Pcm.{interleaved}
 use Rattle.flac_stream.specs.declared.digest.SoundDigest.{SoundDigest}
 use Rattle.flac_stream.specs.declared.frames.FramePlace.{FramePlace}
 
@@ -27,6 +29,12 @@ is_asked digest = not (list_all (nat_eq 0) digest)
 pub record WasFed (asked : Bool) (digest : SoundDigest) (message : List ℕ) : Type 0 where
   pub asked_is : digest.is_asked ≡ asked
   pub holds : asked ≡ true → (held : List ℕ) × Holds digest.hasher held × (held ++ digest.piece.items ≡ message)
+
+-- the call that fed a frame's samples
+abbrev pub FedFrame : ℕ → ℕ → ℕ → List ℤ → SoundDigest → SoundDigest → Type 0
+FedFrame count block channels cells old new =
+    (asked : Bool) (message : List ℕ) → WasFed asked old message
+    → WasFed asked new (message ++ flat_map (in_bytes count) (interleaved block (first_chunks block channels cells)))
 
 -- each of so many channels has as many samples as the frame's first one
 abbrev pub IsEven : ℕ → FlacFrame → Type 0

@@ -1,6 +1,7 @@
 pub mod Answers
 pub mod Blocks
 pub mod Frames
+pub mod Hearing
 pub mod Infos
 pub mod Shape
 pub mod Sounding

@@ -57,6 +57,29 @@ impl SoundDigest {
         if !is_asked {
             return Ok(());
         }
+        // a width that the compiler knows is gathered without a call
+        match count {
+            2 => self.feed_rows(scratch, block, channels, 2),
+            3 => self.feed_rows(scratch, block, channels, 3),
+            _ => self.feed_rows(scratch, block, channels, count),
+        }
+    }
+
+    /// The samples of all places of a frame.
+    #[inline(always)]
+    fn feed_rows(
+        &mut self,
+        scratch: &Scratch,
+        block: u32,
+        channels: usize,
+        count: usize,
+    ) -> Result<(), Memory>
+        requires room { channels * block ≤ length scratch.now.cells }
+        requires bytes { count ≤ 4 }
+        ensures { OnOk result ((asked : Bool) (message : List ℕ) → WasFed asked self.old message
+            → WasFed asked self.new (message
+            ++ flat_map (in_bytes count) (interleaved block (first_chunks block channels scratch.now.cells)))) }
+    {
         for place in 0..block as usize {
             match self.feed_row(scratch, block, place, channels, count) {
                 Ok(()) => {}
@@ -67,6 +90,7 @@ impl SoundDigest {
     }
 
     /// The samples of all channels at a place of a frame.
+    #[inline(always)]
     fn feed_row(
         &mut self,
         scratch: &Scratch,
@@ -94,6 +118,7 @@ impl SoundDigest {
     }
 
     /// One sample, in so many bytes.
+    #[inline(always)]
     fn feed_sample(&mut self, sample: i32, count: usize) -> Result<(), Memory>
         requires { count ≤ 4 }
         ensures { OnOk result ((asked : Bool) (message : List ℕ) → WasFed asked self.old message

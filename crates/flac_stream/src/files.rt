@@ -1,18 +1,15 @@
 //! What a FLAC file is made of.
 ghost use Rattle.std.specs.Prelude.{◌≡◌, ◌≤◌, ◌*◌, length, IfOk, IfErr};
-ghost use Rattle.file_model.specs.FlacFile.{is_total};
 ghost use Rattle.flac_stream.specs.Answers.{IsRefusalOf};
 ghost use Rattle.flac_stream.specs.Blocks.{IsOpening};
-ghost use Rattle.flac_stream.specs.Frames.{AreHeard};
+ghost use Rattle.flac_stream.specs.Hearing.{HaveHeard};
 ghost use Rattle.flac_stream.specs.Shape.{IsReadOf};
 
 use crate::blocks::{Block, Blocks};
+use crate::ending::check_end;
 use crate::frames::{FramePlace, Frames, read_frames};
-use crate::info::INFO_AT;
 use crate::opening::{Opening, read_opening};
-use crate::rules::refused;
-use file_model::flac_fields::{MD5_AT, TOTAL_AT};
-use file_model::{FlacRule, Info};
+use file_model::Info;
 use flac_frames::GREATEST_BLOCK;
 use lib_base::{Refused, Scratch};
 use std::alloc::Global;
@@ -125,8 +122,7 @@ pub(crate) fn scratch_size_for(channels: u32) -> usize
 fn close(bytes: &[u8], opening: Opening, frames: Frames) -> Result<FlacFile, Refused>
     requires opened { IsOpening bytes.now opening.info opening.blocks.items.items
         opening.blocks.comments opening.blocks.end }
-    requires heard { AreHeard opening.info bytes.now opening.blocks.end (length bytes.now)
-        frames.count frames.places.items frames.digest }
+    requires heard { HaveHeard opening.info bytes.now opening.blocks.end (length bytes.now) frames }
     ensures ok { IfOk result (λ file. IsReadOf bytes.now file) }
     ensures err { IfErr result (λ refused. IsRefusalOf bytes.now refused) }
 {
@@ -141,25 +137,15 @@ fn close(bytes: &[u8], opening: Opening, frames: Frames) -> Result<FlacFile, Ref
         count,
         digest,
     } = frames;
-    if !is_total(info.total, count) {
-        return Err(refused(FlacRule::OtherTotal, INFO_AT + TOTAL_AT));
+    match check_end(&info, count, digest) {
+        Ok(()) => Ok(FlacFile {
+            info,
+            blocks: items,
+            comments,
+            frames: count,
+            sound_start: end,
+            places,
+        }),
+        Err(broken) => Err(Refused::Broken(broken)),
     }
-    if !digest.meets(&info.md5) {
-        return Err(refused(FlacRule::OtherMd5, INFO_AT + MD5_AT));
-    }
-    Ok(FlacFile {
-        info,
-        blocks: items,
-        comments,
-        frames: count,
-        sound_start: end,
-        places,
-    })
-}
-
-/// Whether the frames have the total of samples, which is not known where it is 0.
-fn is_total(total: u64, count: u64) -> bool
-    ensures { result ≡ is_total total count }
-{
-    total == 0 || total == count
 }

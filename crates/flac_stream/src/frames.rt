@@ -1,17 +1,18 @@
 //! The frames of a file, one after another (RFC 9639 section 9).
-ghost use Rattle.std.specs.Prelude.{◌≡◌, ◌≤◌, ◌<◌, ◌+◌, ◌*◌, ◌/◌, not, nat_le, length, drop, IfOk, IfErr};
+ghost use Rattle.std.specs.Prelude.{◌≡◌, ◌≤◌, ◌<◌, ◌+◌, ◌*◌, ◌/◌, ◌++◌, ◌∷◌, [], ℕ, List, not, nat_le, length, drop, IfOk, IfErr, OnOk};
 ghost use Rattle.file_model.specs.FlacFile.{NextFrame};
 ghost use Rattle.flac_frames.specs.Answers.{Answers};
 ghost use Rattle.flac_frames.specs.Frames.{frame_in};
 ghost use Rattle.flac_stream.specs.Answers.{IsRefusalOf};
-ghost use Rattle.flac_stream.specs.Frames.{bytes_for, IsStarted, AreHeard};
+ghost use Rattle.flac_stream.specs.Frames.{bytes_for, FedFrame, IsStarted};
+ghost use Rattle.flac_stream.specs.Hearing.{HaveHeard, HearNone, HearsMore};
 
 use crate::digest::SoundDigest;
 use crate::rules::breaks;
 use file_model::flac_fields::MOST_SAMPLES;
 use file_model::{FlacRule, Info};
 use flac_frames::{FrameEnd, GREATEST_BLOCK, read_frame, read_header};
-use lib_base::{Broken, Refused, Scratch};
+use lib_base::{Broken, Memory, Refused, Scratch};
 use std::alloc::Global;
 
 /// Where a frame begins, and how many samples of each channel stand before it.
@@ -29,6 +30,46 @@ pub(crate) struct Frames {
     pub(crate) digest: SoundDigest,
 }
 
+impl Frames {
+    /// No frame yet.
+    pub(crate) fn none(alloc: Global, info: &Info) -> Frames
+        ensures heard { (bytes : List ℕ) (start : ℕ) → start ≤ length bytes
+            → HearNone info.now bytes start result }
+        ensures none { result.count ≡ 0 }
+    {
+        let digest = SoundDigest::new(alloc, &info.md5);
+        Frames {
+            places: Vec::new(alloc),
+            count: 0,
+            digest,
+        }
+    }
+
+    /// One frame more, of a place and a block of so many samples, as they stand in the scratch.
+    fn add(
+        &mut self,
+        info: &Info,
+        scratch: &Scratch,
+        place: FramePlace,
+        block: u32,
+    ) -> Result<(), Memory>
+        requires depth { info.now.depth ≤ 24 }
+        requires room { info.now.channels * block ≤ length scratch.now.cells }
+        requires read { self.old.count + block ≤ MOST_SAMPLES }
+        ensures places { OnOk result (self.new.places.items ≡ self.old.places.items ++ place ∷ []) }
+        ensures count { OnOk result (self.new.count ≡ self.old.count + block) }
+        ensures fed { OnOk result (FedFrame (bytes_for info.now.depth) block info.now.channels
+            scratch.now.cells self.old.digest self.new.digest) }
+    {
+        let count = bytes_for(info.depth);
+        self.digest
+            .feed(scratch, block, info.channels as usize, count)?;
+        self.places.push(place)?;
+        self.count += u64::from(block);
+        Ok(())
+    }
+}
+
 /// Reads the frames from a place up to the file's end.
 pub(crate) fn read_frames(
     alloc: Global,
@@ -44,33 +85,54 @@ pub(crate) fn read_frames(
     requires low { 4 ≤ info.now.depth }
     requires high { info.now.depth ≤ 24 }
     requires room { info.now.channels * GREATEST_BLOCK ≤ length scratch.old.cells }
-    ensures ok { IfOk result (λ frames. AreHeard info.now bytes.now start (length bytes.now)
-        frames.count frames.places.items frames.digest) }
+    ensures ok { IfOk result (HaveHeard info.now bytes.now start (length bytes.now)) }
     ensures err { IfErr result (λ refused. IsRefusalOf bytes.now refused) }
 {
-    let mut places = Vec::new(alloc);
-    let mut digest = SoundDigest::new(alloc, &info.md5);
-    let mut before = 0u64;
+    let mut heard = Frames::none(alloc, info);
     let mut at = start;
     'frames: while at < bytes.len() {
-        let end = match read_next(bytes, at, info, before, scratch) {
-            Ok(end) => end,
-            Err(broken) => return Err(Refused::Broken(broken)),
-        };
-        let count = bytes_for(info.depth);
-        match digest.feed(scratch, end.block, info.channels as usize, count) {
-            Ok(()) => {}
-            Err(_) => return Err(Refused::Memory),
+        match hear_next(bytes, at, info, &mut heard, scratch) {
+            Ok(end) => at = end.next,
+            Err(refused) => return Err(refused),
         }
-        places.push(FramePlace { at, first: before })?;
-        before += u64::from(end.block);
-        at = end.next;
     }
-    Ok(Frames {
-        places,
-        count: before,
-        digest,
-    })
+    Ok(heard)
+}
+
+/// Reads the frame at a place, behind frames that were heard, and hears it: its samples stand in
+/// the scratch, as `channel` shows them.
+pub(crate) fn hear_next(
+    bytes: &[u8],
+    at: usize,
+    info: &Info,
+    heard: &mut Frames,
+    scratch: &mut Scratch,
+) -> Result<FrameEnd, Refused>
+    requires place { at < length bytes.now }
+    requires some { 1 ≤ info.now.channels }
+    requires few { info.now.channels ≤ 6 }
+    requires low { 4 ≤ info.now.depth }
+    requires high { info.now.depth ≤ 24 }
+    requires read { heard.old.count ≤ MOST_SAMPLES }
+    requires room { info.now.channels * GREATEST_BLOCK ≤ length scratch.old.cells }
+    ensures heard { let info = info.now in IfOk result (λ end. HearsMore info bytes.now at end.next
+        (frame_in scratch.new.cells info.channels at end) heard.old heard.new) }
+    ensures next { IfOk result (λ end. (at < end.next) × (end.next ≤ length bytes.now)) }
+    ensures read { IfOk result (λ _. heard.new.count ≤ MOST_SAMPLES) }
+    ensures fits { IfOk result (λ end. info.now.channels * end.block ≤ length scratch.new.cells) }
+    ensures room { length scratch.new.cells ≡ length scratch.old.cells }
+    ensures err { IfErr result (λ refused. (start : ℕ) → IsStarted bytes.now info.now start
+        → HaveHeard info.now bytes.now start at heard.old → IsRefusalOf bytes.now refused) }
+{
+    let end = match read_next(bytes, at, info, heard.count, scratch) {
+        Ok(end) => end,
+        Err(broken) => return Err(Refused::Broken(broken)),
+    };
+    let first = heard.count;
+    match heard.add(info, scratch, FramePlace { at, first }, end.block) {
+        Ok(()) => Ok(end),
+        Err(_) => Err(Refused::Memory),
+    }
 }
 
 /// How many bytes a sample takes.

@@ -6,13 +6,17 @@
 #![tactic(auto)]
 
 mod blocks;
+mod decoding;
 mod digest;
+mod ending;
 #[cfg(test)]
 mod file_tests;
 mod files;
 mod frames;
 mod info;
 mod opening;
+#[cfg(test)]
+mod ordinary_tests;
 mod rules;
 mod sound;
 #[cfg(test)]
@@ -21,6 +25,7 @@ mod sound_tests;
 mod tests;
 
 pub use blocks::Block;
+pub use decoding::decode;
 pub use file_model::Info;
 pub use files::{FlacFile, read};
 pub use sound::FlacSound;

@@ -1,12 +1,12 @@
 use Rattle.std.proofs.Common.{◌≡◌, ◌≤◌, ◌-◌, length}
 use Rattle.file_model.specs.declared.flac_fields.TheConstants.{MOST_SAMPLES}
-use Rattle.flac_stream.specs.Frames.{AreHeard}
+use Rattle.flac_stream.specs.Hearing.{HaveHeard}
 use Rattle.flac_stream.proofs.frames.read_frames.Given as goal
 
 abbrev pub invariant-frames : goal.invariant-frames
 invariant-frames l = record {
-  heard : AreHeard l.info l.bytes l.start l.at l.before l.places.items l.digest;
-  read : l.before ≤ MOST_SAMPLES;
+  heard : HaveHeard l.info l.bytes l.start l.at l.heard;
+  read : l.heard.count ≤ MOST_SAMPLES;
   room : length l.scratch.cells ≡ length l.fn.scratch.cells;
 }
 

@@ -3,7 +3,7 @@ use Rattle.std.specs.List.{flat_map}
 use Rattle.std.specs.Simd.{first_chunks}
 use Rattle.file_model.specs.Pcm.{interleaved}
 use Rattle.flac_stream.specs.Frames.{in_bytes, WasFed}
-use Rattle.flac_stream.proofs.digest.SoundDigest.feed.Given as goal
+use Rattle.flac_stream.proofs.digest.SoundDigest.feed_rows.Given as goal
 
 -- the samples before the place are fed
 abbrev pub invariant-loop-place : goal.invariant-loop-place
