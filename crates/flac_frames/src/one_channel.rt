@@ -19,7 +19,8 @@ use lib_base::Scratch;
 ///
 /// It is for a frame that was read before, so no more of it is read than the channel wants. Where
 /// each channel stands on its own, those before it are not restored and those behind it not read;
-/// and the check over the frame is not tried again. Of bytes that are no frame it may tell anything.
+/// and the check over the frame is not tried again. Of bytes that are no frame it may tell
+/// anything.
 pub fn read_one_channel(
     bytes: &[u8],
     at: usize,
@@ -72,7 +73,8 @@ fn read_behind(
     requires index { index < info.now.channels }
     requires fits { IsFit info.now bytes.now at header.now }
     requires room { info.now.channels * GREATEST_BLOCK ≤ length cells.old }
-    ensures { (frame : FlacFrame) → Body info.now (drop at bytes.now) (header_of header.now) (Ok frame)
+    ensures { (frame : FlacFrame)
+        → Body info.now (drop at bytes.now) (header_of header.now) (Ok frame)
         → IsOkAnd result (λ _. part cells.new (index * header.now.block) header.now.block
         ≡ samples_of frame.lists index) }
 {

@@ -2,8 +2,8 @@
 use crate::{Info, channel, read_one_channel};
 use lib_base::{Memory, Scratch};
 
-/// Each row: a frame of two channels of 4 bits, the left one 3, -8, 7 and the right one -8, 7, 7. In
-/// turn these are coded as left and right, left and side, side and right, mid and side.
+/// Each row: a frame of two channels of 4 bits, the left one 3, -8, 7 and the right one -8, 7, 7.
+/// In turn these are coded as left and right, left and side, side and right, mid and side.
 #[test]
 fn one_channel_of_two(rt: HostRuntime) -> Result<(), Memory> {
     let frames = [

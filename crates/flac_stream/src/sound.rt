@@ -12,8 +12,8 @@ use crate::frames::FramePlace;
 use flac_frames::{GREATEST_BLOCK, channel, read_one_channel};
 use lib_base::{Scratch, Sound};
 
-/// The sound of a FLAC file. It holds no sample: the frames that hold a part are decoded when the
-/// part is asked for.
+/// The sound of a FLAC file. It holds no sample: of the frames that hold a part, the channel that
+/// is asked for is decoded again each time.
 #[derive(Clone, Copy)]
 pub struct FlacSound<'a> {
     bytes: &'a [u8],
@@ -41,8 +41,10 @@ impl<'a> FlacSound<'a> {
     fn fill_part(&self, index: usize, start: u64, out: &mut [i32], scratch: &mut Scratch)
         requires channel { index < self.now.file.now.info.channels }
         requires inside { start + length out.old ≤ self.now.file.now.frames }
-        requires room { self.now.file.now.info.channels * GREATEST_BLOCK ≤ length scratch.old.cells }
-        ensures samples { out.new ≡ part (samples_of self.now.held.0 index) start (length out.old) }
+        requires room { self.now.file.now.info.channels * GREATEST_BLOCK
+            ≤ length scratch.old.cells }
+        ensures samples { out.new
+            ≡ part (samples_of self.now.held.0 index) start (length out.old) }
         ensures room { length scratch.new.cells ≡ length scratch.old.cells }
     {
         if out.len() == 0 {
@@ -68,16 +70,20 @@ impl<'a> FlacSound<'a> {
         scratch: &mut Scratch,
     ) -> usize
         requires channel { index < self.now.file.now.info.channels }
-        requires room { self.now.file.now.info.channels * GREATEST_BLOCK ≤ length scratch.old.cells }
+        requires room { self.now.file.now.info.channels * GREATEST_BLOCK
+            ≤ length scratch.old.cells }
         requires frame { frame < length self.now.file.now.places }
         requires inside { start + length out.old ≤ self.now.file.now.frames }
         requires done { done ≤ length out.old }
         requires behind { samples_before self.now.file.now frame ≤ start + done }
         requires before { start + done ≤ samples_before self.now.file.now (frame + 1) }
-        requires written { take done out.old ≡ part (samples_of self.now.held.0 index) start done }
-        ensures written { take result out.new ≡ part (samples_of self.now.held.0 index) start result }
+        requires written { take done out.old
+            ≡ part (samples_of self.now.held.0 index) start done }
+        ensures written { take result out.new
+            ≡ part (samples_of self.now.held.0 index) start result }
         ensures within { result ≤ length out.old }
-        ensures next { result < length out.old → start + result ≡ samples_before self.now.file.now (frame + 1) }
+        ensures next { result < length out.old
+            → start + result ≡ samples_before self.now.file.now (frame + 1) }
         ensures long { length out.new ≡ length out.old }
         ensures room { length scratch.new.cells ≡ length scratch.old.cells }
     {
@@ -90,10 +96,12 @@ impl<'a> FlacSound<'a> {
     /// frame, and how many it has.
     fn decode(&self, frame: usize, index: usize, scratch: &mut Scratch) -> (u64, u32)
         requires channel { index < self.now.file.now.info.channels }
-        requires room { self.now.file.now.info.channels * GREATEST_BLOCK ≤ length scratch.old.cells }
+        requires room { self.now.file.now.info.channels * GREATEST_BLOCK
+            ≤ length scratch.old.cells }
         requires frame { frame < length self.now.file.now.places }
         ensures first { result.0 ≡ samples_before self.now.file.now frame }
-        ensures cells { IsInCells self.now.file.now self.now.held.0 scratch.new.cells frame index result.1 }
+        ensures cells { IsInCells self.now.file.now self.now.held.0 scratch.new.cells
+            frame index result.1 }
         ensures room { length scratch.new.cells ≡ length scratch.old.cells }
     {
         let place = place_of(self.file, frame);
@@ -174,14 +182,16 @@ fn copy_behind(samples: &[i32], from: usize, out: &mut [i32], done: usize) -> us
     requires from { from ≤ length samples.now }
     requires done { done ≤ length out.old }
     ensures count { result ≡ min (length samples.now - from) (length out.old - done) }
-    ensures written { take (done + result) out.new ≡ take done out.old ++ part samples.now from result }
+    ensures written { take (done + result) out.new
+        ≡ take done out.old ++ part samples.now from result }
     ensures long { length out.new ≡ length out.old }
 {
     let (_, rest) = out.split_at_mut(done);
     copy_front(samples, from, rest)
 }
 
-/// Copies samples from a place on, as many as there are and as there is room for. It tells how many.
+/// Copies samples from a place on, as many as there are and as there is room for. It tells how
+/// many.
 fn copy_front(samples: &[i32], from: usize, out: &mut [i32]) -> usize
     requires { from ≤ length samples.now }
     ensures count { result ≡ min (length samples.now - from) (length out.old) }
