@@ -1,6 +1,7 @@
 //! Parts of a sound, decoded from the bytes of its file.
 use crate::{FlacSound, read};
-use lib_base::{Scratch, Sound};
+use lib_base::{Memory, Scratch, Sound};
+use std::alloc::Global;
 use std::test::Fail;
 
 /// Two channels of 8 bits, in frames of 16, 16 and 5 samples. The second frame holds left and side.
@@ -32,6 +33,24 @@ const LISTS: [[i32; 37]; 2] = [
 /// A sound over a file is two references, and holds no sample.
 const _: () = prove!(size_of::<FlacSound<'static>>() == 24);
 
+/// A part of a channel, if the sound has such a part.
+fn part_of<S: Sound>(
+    alloc: Global,
+    sound: &S,
+    channel: usize,
+    start: u64,
+    count: usize,
+) -> Result<Option<Vec<i32>>, Memory> {
+    let frames = sound.frames();
+    if channel >= sound.channels() || start > frames || count as u64 > frames - start {
+        return Ok(None);
+    }
+    let mut scratch = Scratch::new(alloc, sound.scratch_size())?;
+    let mut part = vec![in alloc; 7; count]?;
+    sound.fill(channel, start, part.as_mut_slice(), &mut scratch);
+    Ok(Some(part))
+}
+
 /// Each row: a channel, the first sample of a part, and how many it has.
 #[test]
 fn parts_within_frames_and_across_them(rt: HostRuntime) -> Result<(), Fail> {
@@ -57,14 +76,13 @@ fn parts_within_frames_and_across_them(rt: HostRuntime) -> Result<(), Fail> {
         (sound.channels(), sound.depth(), sound.frames()),
         (2, 8, 37)
     );
-    let mut scratch = Scratch::new(rt.alloc(), sound.scratch_size())?;
     for (channel, start, count) in parts {
-        assert!(rt; channel < 2 && start + count <= 37);
-        let mut out = [7; 37];
-        sound.fill(channel, start as u64, &mut out[..count], &mut scratch);
+        assert!(rt; channel < 2 && start <= 37 && count <= 37 - start);
+        let samples = &LISTS[channel][start..start + count];
+        let samples = Vec::from_slice(rt.alloc(), samples)?;
         assert_eq!(rt;
-            &out[..count],
-            &LISTS[channel][start..start + count],
+            part_of(rt.alloc(), &sound, channel, start as u64, count)?,
+            Some(samples),
             "{count} samples of channel {channel} from {start}"
         );
     }
