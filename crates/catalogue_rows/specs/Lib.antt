@@ -1,2 +1,5 @@
 pub mod Holding
 pub mod Looking
+pub mod Measuring
+pub mod Opening
+pub mod Tallied

@@ -2,12 +2,19 @@
 //!
 //! It promises that changes lead from tables that the rows hold to the tables that they make of
 //! them, that what holds tables gives their next numbers and the row of each id, and that its rows
-//! ascend, so that each is found by halving.
+//! ascend, so that each is found by halving. Tables are opened where no row breaks a rule, and else
+//! the first row is told that does.
 #![tactic(auto)]
 
+mod building;
 mod looking;
+mod measuring;
+mod opening;
+mod placing;
 mod rows;
+mod summing;
 #[cfg(test)]
 mod tests;
 
+pub use opening::{NotOpened, open_rows};
 pub use rows::CatalogueRows;
