@@ -1,1 +1,7 @@
+pub mod Changed
 pub mod IdLemmas
+pub mod Placed
+pub mod Summed
+pub mod Taken
+pub mod Tokens
+pub mod Unbroken
