@@ -1,7 +1,7 @@
 //! The library: the rows that it keeps, and its opening.
 ghost use Rattle.catalogue_core.specs.Opening.{OpensTables};
 
-use catalogue_rows::{CatalogueRows, NotOpened, open_rows};
+use catalogue_rows::{CatalogueRows, NotOpened, open_untallied};
 use keeper_store::{Keeper, Tables};
 use lib_base::Outside;
 use library_model::BadRow;
@@ -54,7 +54,7 @@ fn library_of<R: Threads + Sync>(
 ) -> Result<Library, OpenRefusal>
     ensures { OpensTables tables result }
 {
-    match open_rows(rt, alloc, tables) {
+    match open_untallied(rt, alloc, tables) {
         Ok(rows) => Ok(Library { alloc, rows }),
         Err(NotOpened::BadRow(bad)) => Err(OpenRefusal::BadRow(bad)),
         Err(NotOpened::Memory) => Err(OpenRefusal::Memory),

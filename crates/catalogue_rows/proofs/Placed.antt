@@ -1,10 +1,10 @@
 -- Recordings of albums, taken in one after another.
-use Rattle.std.proofs.Common.{◌≡◌, ◌≢◌, ◌<◌, ◌≤◌, ◌+◌, ℕ, zero, suc, Bool, true, false, cond, List, [], ◌∷◌, ◌++◌, length, map, filter, take, set, nat_lt, ◌==◌, Option, Some, None, refl, sym, ap, ◌∙◌, subst, arith, Contains}
+use Rattle.std.proofs.Common.{◌≡◌, ◌≢◌, ◌<◌, ◌≤◌, ℕ, zero, suc, Bool, true, false, cond, List, [], ◌∷◌, ◌++◌, length, map, filter, take, set, nat_lt, ◌==◌, Some, refl, sym, ap, ◌∙◌, subst, arith, Contains}
 use Rattle.std.specs.Prelude.{All, OnOk, Result}
 use Rattle.std.specs.List.{AllByRecursion, AllZip}
 use Rattle.std.proofs.Math.ListN.{get_or}
 use Rattle.std.proofs.lemmas.Bool.Decides.{nat_tests}
-use Rattle.std.proofs.lemmas.List.{map-append, take_more, length-map}
+use Rattle.std.proofs.lemmas.List.{map-append, length-map}
 use Rattle.std.proofs.lemmas.List.Elements.{All-from_recursion, All-head, All-tail, filter-append}
 use Rattle.std.proofs.lemmas.Result.{on_ok_weaker}
 use Rattle.std.proofs.lemmas.List.Sums.{length-filter}
@@ -14,14 +14,12 @@ use Rattle.keeper_store.specs.declared.row_types.AlbumRow.{AlbumRow}
 use Rattle.keeper_store.specs.declared.row_types.RecordingRow.{RecordingRow}
 use Rattle.keeper_store.specs.Puts.{Ascends, album_less, recording_less}
 use Rattle.keeper_store.proofs.Putting.{AllByRecursion-weaken, All-at}
-use Rattle.album_merge.specs.Bounds.{most_recordings}
 use Rattle.album_merge.specs.Members.{Kept, IsAlbumOf, ids_of, placed, recording_id, with_recording}
 use Rattle.album_merge.proofs.Joining.{has_none, ids_joined}
 use Rattle.library_model.specs.declared.limits.TheConstants.{MOST_MEMBERS}
-use Rattle.library_model.specs.RowRules.{first_bad_row, measured_in, members_in, is_in_album, member_count, has_album}
+use Rattle.library_model.specs.RowRules.{measured_in, members_in, is_in_album, member_count, has_album}
 use Rattle.catalogue_rows.specs.Opening.{AreAlbumsOf, HasPlace, HavePlace, with_one, with_row}
 use Rattle.catalogue_rows.specs.Tallied.{album_of}
-use Rattle.catalogue_rows.proofs.Unbroken.{unbroken}
 
 -- what follows where a call succeeds
 pub OnOk_then : {T E P Q : Type 0} (r : Result T E) → OnOk r P → (P → Q) → OnOk r Q

@@ -1,5 +1,5 @@
 -- The first row with another summary, as far as rows were tried.
-use Rattle.std.proofs.Common.{◌≡◌, ◌<◌, ◌≤◌, ◌+◌, ℕ, zero, suc, List, [], ◌∷◌, ◌++◌, length, map, take, Bool, true, false, is_some, Option, Some, None, refl, sym, ap, ◌∙◌, subst, arith, inl, inr, ◌⊎◌, ℤ, ◌==◌, true≢false}
+use Rattle.std.proofs.Common.{◌≡◌, ◌<◌, ◌+◌, ℕ, zero, suc, List, [], ◌∷◌, ◌++◌, length, map, take, Bool, true, false, is_some, Option, Some, None, refl, sym, ap, ◌∙◌, subst, arith, inl, inr, ℤ, ◌==◌, true≢false}
 use Rattle.std.specs.List.{AllByRecursion}
 use Rattle.std.specs.Prelude.{◌&&◌}
 use Rattle.std.specs.Option.{option_or, option_eq}
@@ -16,7 +16,7 @@ use Rattle.album_merge.specs.Members.{measured_of}
 use Rattle.sound_model.specs.Albums.{IsAlbumSummary}
 use Rattle.library_model.specs.declared.bad_rows.BadRow.{BadRow}
 use Rattle.library_model.specs.RowRules.{IsFirstWithout, IsSummedAlbum, IsSummedRecording, other_album_summary, other_recording_summary, measured_in, members_in}
-use Rattle.catalogue_rows.specs.Opening.{AreSummed, IsFirstAnswer, IsFirstOther, IsFirstSummary, IsOther}
+use Rattle.catalogue_rows.specs.Opening.{IsFirstAnswer, IsFirstOther, IsOther}
 use Rattle.catalogue_rows.specs.Tallied.{album_of}
 use Rattle.catalogue_rows.proofs.Unbroken.{and_true}
 

@@ -1,6 +1,6 @@
 -- What is built of tables, recording by recording.
-use Rattle.std.proofs.Common.{◌≡◌, ◌<◌, ◌≤◌, ◌+◌, ℕ, true, List, [], ◌∷◌, ◌++◌, length, map, take, nat_lt, Option, Some, None, refl, sym, ap, ◌∙◌, subst, arith, inl, inr}
-use Rattle.std.specs.List.{AllByRecursion, AllZip}
+use Rattle.std.proofs.Common.{◌≡◌, ◌<◌, ◌≤◌, ◌+◌, ℕ, true, List, [], ◌∷◌, ◌++◌, length, take, nat_lt, Option, Some, None, sym, ap, ◌∙◌, subst, inr}
+use Rattle.std.specs.List.{AllByRecursion}
 use Rattle.std.specs.Option.{option_or}
 use Rattle.std.proofs.Math.ListN.{get_or}
 use Rattle.std.proofs.lemmas.List.{take_more}
@@ -9,9 +9,9 @@ use Rattle.keeper_store.specs.declared.contents.Tables.{Tables}
 use Rattle.keeper_store.specs.declared.row_types.AlbumRow.{AlbumRow}
 use Rattle.keeper_store.specs.declared.row_types.RecordingRow.{RecordingRow}
 use Rattle.keeper_store.specs.Held.{RowsAscend}
-use Rattle.keeper_store.specs.Puts.{Ascends, recording_less}
+use Rattle.keeper_store.specs.Puts.{recording_less}
 use Rattle.keeper_store.proofs.Putting.{All-at}
-use Rattle.album_merge.specs.Members.{Kept, IsAlbumOf}
+use Rattle.album_merge.specs.Members.{IsAlbumOf}
 use Rattle.album_merge.specs.Tallies.{Tallied}
 use Rattle.library_model.specs.declared.bad_rows.BadRow.{BadRow}
 use Rattle.library_model.specs.declared.limits.TheConstants.{MOST_MEMBERS}

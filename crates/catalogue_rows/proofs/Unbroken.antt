@@ -1,7 +1,7 @@
 -- Tables of which no row breaks another rule than that of summaries: what holds of their rows.
-use Rattle.std.proofs.Common.{◌≡◌, ◌≢◌, ◌<◌, ◌≤◌, ◌+◌, ◌%◌, ◌/◌, ℕ, zero, suc, Bool, true, false, not, cond, List, [], ◌∷◌, ◌++◌, length, map, nat_lt, nat_le, ◌==◌, Option, Some, None, refl, sym, ap, ◌∙◌, subst, arith}
+use Rattle.std.proofs.Common.{◌≡◌, ◌≤◌, ◌%◌, ◌/◌, ℕ, Bool, true, false, not, cond, List, [], ◌∷◌, length, nat_lt, nat_le, ◌==◌, Option, Some, None, refl, sym, ap, ◌∙◌, subst, arith}
 use Rattle.std.specs.Prelude.{◌&&◌, ◌||◌, ⊤, All, Contains}
-use Rattle.std.specs.List.{AllByRecursion, list_any, list_all, find}
+use Rattle.std.specs.List.{AllByRecursion, list_all, find}
 use Rattle.std.specs.Option.{option_or}
 use Rattle.std.proofs.lemmas.Bool.Decides.{nat_tests}
 use Rattle.std.proofs.lemmas.List.Elements.{All-nil, All-cons, All-contains, All-from_recursion}
@@ -20,7 +20,7 @@ use Rattle.library_model.specs.declared.bad_rows.RowRule.{RowRule}
 use Rattle.library_model.specs.declared.bad_rows.RowTable.{RowTable}
 use Rattle.library_model.specs.declared.bad_rows.RowTable.TheVariants.{Counters}
 use Rattle.library_model.specs.declared.limits.TheConstants.{MOST_MEMBERS}
-use Rattle.library_model.specs.RowRules.{first_bad_row, first_bad_of, bad_at, bad_album, bad_recording, bad_segments, bad_reply, counters_rule, album_rule, recording_rule, segments_rule, energies_rule, reply_rule, is_placed, is_depth, is_sound, are_energies_of, BesideRow, album_before, recording_before, segments_before, token_before, is_above, beside_row, album_is_there, has_segments, is_named, frames_of_take, member_count, energies_of_take, measured_in, has_album}
+use Rattle.library_model.specs.RowRules.{first_bad_row, first_bad_of, bad_at, bad_album, bad_recording, bad_segments, bad_reply, counters_rule, album_rule, recording_rule, energies_rule, is_placed, is_depth, is_sound, are_energies_of, BesideRow, recording_before, beside_row, album_is_there, has_segments, is_named, frames_of_take, member_count, energies_of_take, measured_in}
 use Rattle.sound_model.specs.Segments.{greatest_energy}
 use Rattle.sound_model.specs.Summaries.{IsWithinBounds, most_frames, greatest_peak}
 use Rattle.catalogue_rows.specs.Measuring.{AreDecoded, IsDecodedTake}

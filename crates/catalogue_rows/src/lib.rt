@@ -7,14 +7,26 @@
 #![tactic(auto)]
 
 mod building;
+mod changing;
+mod checking;
+mod joining;
+mod kept;
 mod looking;
 mod measuring;
 mod opening;
+#[cfg(test)]
+mod opening_tests;
 mod placing;
+mod ranks;
+mod replies;
 mod rows;
 mod summing;
+mod tallied;
 #[cfg(test)]
 mod tests;
 
+pub use checking::open_untallied;
+pub use kept::{KeptAlbum, KeptRecording};
 pub use opening::{NotOpened, open_rows};
 pub use rows::CatalogueRows;
+pub use tallied::TalliedRows;

@@ -1,7 +1,4 @@
-use Rattle.std.proofs.Common.{◌≡◌, ◌==◌, Some, sym, ap, ◌∙◌, subst}
-use Rattle.std.specs.List.{find, AllByRecursion}
-use Rattle.lib_base.specs.declared.files.Measured.{Measured}
-use Rattle.keeper_store.specs.declared.row_types.SegmentRow.{SegmentRow}
+use Rattle.std.proofs.Common.{sym, subst}
 use Rattle.sound_model.specs.Summaries.{IsWithinBounds}
 use Rattle.catalogue_rows.proofs.Unbroken.{unbroken, measured_within, decoded_take}
 use Rattle.catalogue_rows.proofs.measuring.tally_of.Goals as goal

@@ -1,4 +1,4 @@
-use Rattle.std.proofs.Common.{arith, ◌≡◌, ◌<◌, Some, length, true, sym, subst}
+use Rattle.std.proofs.Common.{arith, ◌≡◌, Some, true, sym, subst}
 use Rattle.std.proofs.Math.ListN.{get_or}
 use Rattle.keeper_store.specs.declared.row_types.AlbumRow.{AlbumRow}
 use Rattle.album_merge.specs.Members.{Kept, IsAlbumOf}

@@ -1,11 +1,8 @@
-use Rattle.std.proofs.Common.{rules, arith, ◌≡◌, ◌<◌, ◌≤◌, ◌+◌, ℕ, true, false, List, length, is_some}
-use Rattle.std.specs.List.{AllZip}
-use Rattle.lib_base.specs.declared.files.Measured.{Measured}
+use Rattle.std.proofs.Common.{rules, arith, ◌≡◌, ◌<◌, true, false, length, is_some}
 use Rattle.keeper_store.specs.declared.row_types.AlbumRow.{AlbumRow}
 use Rattle.album_merge.specs.Members.{Kept, IsAlbumOf, measured_of}
 use Rattle.library_model.specs.RowRules.{other_album_summary}
 use Rattle.sound_model.specs.Albums.{IsAlbumSummary}
-use Rattle.catalogue_rows.specs.Opening.{AreAlbumsOf, IsOther}
 use Rattle.catalogue_rows.proofs.Placed.{AllZip-read}
 use Rattle.catalogue_rows.proofs.Summed.{first_found, none_more}
 use Rattle.catalogue_rows.proofs.summing.first_other_album.Goals as goal

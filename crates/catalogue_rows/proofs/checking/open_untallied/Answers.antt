@@ -1,7 +1,7 @@
 use Rattle.std.proofs.Common.{None}
 use Rattle.library_model.specs.RowRules.{IsFirstBad}
 use Rattle.catalogue_rows.proofs.Taken.{rows_ascend}
-use Rattle.catalogue_rows.proofs.opening.open_rows.Goals as goal
+use Rattle.catalogue_rows.proofs.checking.open_untallied.Goals as goal
 
 pub of-requires : goal.of-requires
 of-requires g c =
