@@ -203,7 +203,9 @@ def write(lines):
         places = [(row[0], row[2]) for row in page_rows(lines) if row[1] == crate]
         before = [at for at, other in places if other <= file]
         if not places:
-            continue
+            if "## " + crate not in lines:
+                continue
+            before = [lines.index("|---|---|---|---|", lines.index("## " + crate))]
         text = specs[crate + ".specs." + file].comments[name].replace("|", "\\|")
         lines.insert(before[-1] + 1 if before else places[0][0], "| %s | `%s` | %s |" % (file, name, text))
     for at, crate, file, names, text, _ in list(page_rows(lines)):
