@@ -2,13 +2,13 @@
 ghost use Rattle.std.specs.Prelude.{◌≡◌, IfOk, string_bytes};
 ghost use Rattle.serde_json.specs.View.{view};
 ghost use Rattle.serde_json.specs.Written.{compact_text};
-ghost use Rattle.library_model.specs.Bodies.{recording_data, row_reply};
+ghost use Rattle.library_model.specs.Bodies.{kind_text, recording_data, row_reply};
 ghost use Rattle.library_model.specs.Replies as model;
 ghost use Rattle.sound_model.specs.Texts.{peak_text};
 
 use db_table::peak_text;
 use keeper_store::RecordingRow;
-use lib_base::{Broken, Bytes, Memory};
+use lib_base::{Broken, Bytes, Kind, Memory};
 use library_model::{BodyKind, Refusal, Reply};
 use serde_json::{Value, json};
 use std::alloc::{AllocError, Global};
@@ -55,12 +55,14 @@ fn recording_value(alloc: Global, row: &RecordingRow, peak: &str) -> Result<Valu
     ensures { IfOk result (λ value. view value ≡ recording_data row.now) }
 {
     let summary = row.summary;
+    let kind = kind_text(row.kind);
     json!(in alloc; {
         "channels": row.channels,
         "depth": row.depth,
         "frames": summary.frames,
         "gain": summary.gain,
         "id": row.id,
+        "kind": kind,
         "loudness": summary.loudness,
         "momentary": summary.momentary,
         "peak": peak,
@@ -68,6 +70,16 @@ fn recording_value(alloc: Global, row: &RecordingRow, peak: &str) -> Result<Valu
         "short": summary.short_term,
         "true_peak": summary.true_peak
     })
+}
+
+/// The text that a kind of file is answered as.
+fn kind_text(kind: Kind) -> &'static str
+    ensures { result.now ≡ kind_text kind }
+{
+    match kind {
+        Kind::Wave => "wave",
+        Kind::Flac => "flac",
+    }
 }
 
 fn json_reply(status: u16, text: String) -> Reply
