@@ -86,7 +86,7 @@ if command -v flac >/dev/null; then
             awk -v name="$bits bits, level $level" -v read="$read" -v test="$test" -v fill="$fill" 'BEGIN {
                 samples = 600 * 48000 * 2 / 1e9
                 printf "a whole read of %s beside flac -t: %.2f times its time (%.1f and %.1f ns a sample); ", name, read / test, read / samples, test / samples
-                printf "filling both channels: %.2f times a whole read\n", (fill - read) / read
+                printf "filling a channel in pieces of 4,096: %.2f times a whole read\n", (fill - read) / read / 2
             }'
         done
     done

@@ -1,4 +1,6 @@
 //! One channel of a frame.
+ghost use Rattle.std.specs.Prelude.{◌<◌};
+
 use crate::{Info, channel, read_one_channel};
 use lib_base::{Memory, Scratch};
 use std::alloc::Global;

@@ -1,11 +1,9 @@
 -- The end of a file: what STREAMINFO says of all frames.
-use Rattle.std.proofs.Common.{◌≡◌, ◌≤◌, inl, inr, ℕ, Bool, true, false, List, [], length, drop, Option, Result, Ok, Err, refl, ap, sym, ◌∙◌, subst, arith}
-use Rattle.std.specs.Prelude.{◌||◌}
+use Rattle.std.proofs.Common.{◌≡◌, inr, ℕ, Bool, true, false, List, [], length, drop, Option, Result, Ok, Err, refl, ap, sym, ◌∙◌, subst, arith}
 use Rattle.std.proofs.lemmas.List.{drop_all}
 use Rattle.lib_base.specs.declared.outcomes.Broken.{Broken}
 use Rattle.lib_base.specs.declared.outcomes.Refused.TheVariants.{Broken as Faulty}
 use Rattle.file_model.specs.declared.flac_info.Info.{Info}
-use Rattle.file_model.specs.declared.flac_rules.FlacRule.{FlacRule}
 use Rattle.file_model.specs.declared.flac_rules.FlacRule.TheVariants.{OtherTotal, OtherMd5}
 use Rattle.file_model.specs.FlacBreaks.{FlacBreaks}
 use Rattle.file_model.specs.FlacFile.{FlacBreak, breaks_at, is_total, is_md5, blocks_of, FramesUpTo, sound_in, sound_at}
@@ -16,9 +14,9 @@ use Rattle.flac_stream.specs.declared.blocks.Block.{Block as Stored}
 use Rattle.flac_stream.specs.declared.digest.SoundDigest.{SoundDigest}
 use Rattle.flac_stream.specs.declared.frames.FramePlace.{FramePlace}
 use Rattle.flac_stream.specs.Answers.{IsRefusalOf, AnswersBreak}
-use Rattle.flac_stream.specs.Blocks.{Opens, IsOpening}
+use Rattle.flac_stream.specs.Blocks.{IsOpening}
 use Rattle.flac_stream.specs.Frames.{IsStarted, AreHeard}
-use Rattle.flac_stream.specs.Shape.{Shape, IsReadOf}
+use Rattle.flac_stream.specs.Shape.{IsReadOf}
 
 -- the two rules of a sound
 ended : Bool → Bool → Pcm → Result Pcm FlacBreak

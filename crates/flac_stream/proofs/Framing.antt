@@ -8,10 +8,8 @@ use Rattle.std.proofs.lemmas.List.Sums.{sum_by_push}
 use Rattle.lib_base.specs.declared.outcomes.Broken.{Broken as Fault}
 use Rattle.file_model.specs.declared.flac_info.Info.{Info}
 use Rattle.file_model.specs.declared.flac_rules.FlacRule.{FlacRule}
-use Rattle.file_model.specs.FlacBreaks.{FlacBreaks}
 use Rattle.file_model.specs.FlacFile.{block_of, blocks_of, NextFrame, FramesUpTo, sound_in, bytes_of}
 use Rattle.file_model.specs.FlacFrame.{FlacFrame}
-use Rattle.file_model.specs.FlacRules.{flac_rule_of}
 use Rattle.file_model.specs.Pcm.{interleaved}
 use Rattle.file_model.specs.Reading.{ReadsAsFlac, broken}
 use Rattle.file_model.proofs.FlacLaws.{FramesUpTo-push, blocks_behind}

@@ -1,6 +1,4 @@
 //! Files of the ordinary encoder (`flac` 1.4.2, in blocks of 16 samples), read and decoded.
-ghost use Rattle.std.specs.Prelude.{◌≡◌, ◌≤◌, ◌<◌, ◌+◌, length};
-
 use crate::{decode, read};
 use file_model::FlacRule;
 use lib_base::{Broken, Memory, PcmSound, Refused, Scratch, Sound};

@@ -1,5 +1,5 @@
 -- What header lines of a name give.
-use Rattle.std.specs.Prelude.{◌≡◌, ℕ, List, [], ◌∷◌, length}
+use Rattle.std.specs.Prelude.{◌≡◌, ℕ, List, [], ◌∷◌}
 use Rattle.httparse.specs.Spans.{IsWithin}
 use Rattle.http_inbox.specs.declared.heads.FieldSpan.{FieldSpan}
 use Rattle.http_inbox.specs.declared.heads.FieldSpan.TheVariants as span

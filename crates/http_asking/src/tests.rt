@@ -1,50 +1,48 @@
 //! What requests ask, what changes want, and their marks. Memory is ample here.
 use crate::{Asking, Field, ask_for, mark_of, name_asked, wanted};
 use http_inbox::{HeadRead, Inbox};
-use http_model::{AskingRefusal, Command, Question, Wanted};
-use http_routes::{Paths, Resource};
+use http_model::{Command, Question, Wanted};
+use http_routes::{Paths, Resource, Route};
 use lib_base::{Bytes, MemSource, Memory};
 use std::alloc::Global;
 use std::test::Fail;
 
-/// What a request asks: a refusal, with the methods that it names, a question, or a change.
-type Told = (
-    Option<AskingRefusal>,
-    &'static str,
-    Option<Question>,
-    Option<Resource>,
-);
-
-const NO_ROUTE: Told = (Some(AskingRefusal::NoRoute), "", None, None);
-
-const NO_TOKEN: Told = (Some(AskingRefusal::Token), "", None, None);
-
-fn no_method(allowed: &'static str) -> Told {
-    (Some(AskingRefusal::Method), allowed, None, None)
-}
-
-fn asks(question: Question) -> Told {
-    (None, "", Some(question), None)
-}
-
-fn changes(resource: Resource) -> Told {
-    (None, "", None, Some(resource))
-}
+/// What a request asks: a word for it, the methods that its reply names, and the id that it names.
+type Told = (&'static str, &'static str, u32);
 
 fn told(asking: Asking<'_>) -> Told {
     match asking {
-        Asking::Refused { cause, allows } => {
-            (
-                Some(cause),
-                allows.map_or("", |route| route.allowed()),
-                None,
-                None,
-            )
-        }
-        Asking::Question(question) => (None, "", Some(question), None),
-        Asking::Change { resource, .. } => (None, "", None, Some(resource)),
+        Asking::Refused { cause, allows } => (cause.word(), named(allows), 0),
+        Asking::Question(Question::Recording(id)) => ("recording?", "", id),
+        Asking::Question(Question::Album(id)) => ("album?", "", id),
+        Asking::Change { resource, .. } => changed(resource),
     }
 }
+
+fn named(allows: Option<Route>) -> &'static str {
+    match allows {
+        Some(route) => route.allowed(),
+        None => "",
+    }
+}
+
+fn changed(resource: Resource) -> Told {
+    match resource {
+        Resource::Albums => ("albums", "", 0),
+        Resource::Recordings => ("recordings", "", 0),
+        Resource::AlbumRecordings(id) => ("recordings of album", "", id),
+        Resource::Audio(id) => ("audio", "", id),
+        Resource::RecordingAlbum(id) => ("album of recording", "", id),
+        Resource::Recording(id) => ("recording", "", id),
+        Resource::Album(id) => ("album", "", id),
+    }
+}
+
+const LONGEST: &str =
+    "Request-Token: 0123456789012345678901234567890123456789012345678901234567890123\r\n";
+
+const TOO_LONG: &str =
+    "Request-Token: 01234567890123456789012345678901234567890123456789012345678901234\r\n";
 
 /// What the request of that line and these header lines asks, if its head is one.
 fn ask(alloc: Global, paths: &Paths, line: &str, fields: &str) -> Result<Option<Told>, Memory> {
@@ -61,82 +59,70 @@ fn ask(alloc: Global, paths: &Paths, line: &str, fields: &str) -> Result<Option<
 fn requests_ask(rt: HostRuntime) -> Result<(), Fail> {
     let alloc = rt.alloc();
     let paths = Paths::new(alloc)?;
-    let digits = String::from_utf8(Vec::from_slice(alloc, [b'1'; 300].as_slice())?)?;
-    let long = format!(in alloc; "GET /recordings/{digits}")?;
-    let longest = format!(in alloc; "Request-Token: {}\r\n", digits.as_str().split_at(64).0)?;
-    let too_long = format!(in alloc; "Request-Token: {}\r\n", digits.as_str().split_at(65).0)?;
+    let mut long = String::from_str(alloc, "GET /recordings/")?;
+    for _ in 0..300 {
+        long.push_str("1")?;
+    }
     let token = "Request-Token: a-Z9\r\n";
     for (line, fields, want) in [
-        ("GET /", "", NO_ROUTE),
-        ("GET /groups", "", NO_ROUTE),
-        ("POST /albums/", token, NO_ROUTE),
-        ("GET /recordings/1/", "", NO_ROUTE),
-        ("GET /recordings/1/file", "", NO_ROUTE),
-        ("POST /recordings?x=1", token, NO_ROUTE),
-        ("POST //recordings", token, NO_ROUTE),
-        ("PATCH /albums", token, no_method("POST")),
-        ("GET /recordings", "", no_method("POST")),
-        ("HEAD /albums/1/recordings", "", no_method("POST")),
-        ("POST /recordings/1/audio", token, no_method("PUT")),
-        ("PATCH /recordings/1/album", token, no_method("PUT")),
-        ("HEAD /recordings/1", "", no_method("GET, DELETE")),
-        ("PUT /albums/1", token, no_method("GET, DELETE")),
-        ("get /albums/1", "", no_method("GET, DELETE")),
-        ("GET /recordings/12", "", asks(Question::Recording(12))),
-        (
-            "GET /albums/2147483646",
-            "",
-            asks(Question::Album(2_147_483_646)),
-        ),
-        (
-            "GET /recordings/2147483647",
-            "",
-            asks(Question::Recording(0)),
-        ),
-        ("GET /recordings/-1", "", asks(Question::Recording(0))),
-        ("GET /albums/+1", "", asks(Question::Album(0))),
-        (long.as_str(), "", asks(Question::Recording(0))),
-        ("POST /albums", token, changes(Resource::Albums)),
-        ("POST /recordings", token, changes(Resource::Recordings)),
+        ("GET /", "", ("no-route", "", 0)),
+        ("GET /groups", "", ("no-route", "", 0)),
+        ("POST /albums/", token, ("no-route", "", 0)),
+        ("GET /recordings/1/", "", ("no-route", "", 0)),
+        ("GET /recordings/1/file", "", ("no-route", "", 0)),
+        ("POST /recordings?x=1", token, ("no-route", "", 0)),
+        ("POST //recordings", token, ("no-route", "", 0)),
+        ("PATCH /albums", token, ("method", "POST", 0)),
+        ("GET /recordings", "", ("method", "POST", 0)),
+        ("HEAD /albums/1/recordings", "", ("method", "POST", 0)),
+        ("POST /recordings/1/audio", token, ("method", "PUT", 0)),
+        ("PATCH /recordings/1/album", token, ("method", "PUT", 0)),
+        ("HEAD /recordings/1", "", ("method", "GET, DELETE", 0)),
+        ("PUT /albums/1", token, ("method", "GET, DELETE", 0)),
+        ("get /albums/1", "", ("method", "GET, DELETE", 0)),
+        ("GET /recordings/12", "", ("recording?", "", 12)),
+        ("GET /albums/2147483646", "", ("album?", "", 2_147_483_646)),
+        ("GET /recordings/2147483647", "", ("recording?", "", 0)),
+        ("GET /recordings/-1", "", ("recording?", "", 0)),
+        ("GET /albums/+1", "", ("album?", "", 0)),
+        (long.as_str(), "", ("recording?", "", 0)),
+        ("POST /albums", token, ("albums", "", 0)),
+        ("POST /recordings", token, ("recordings", "", 0)),
         (
             "POST /albums/7/recordings",
             token,
-            changes(Resource::AlbumRecordings(7)),
+            ("recordings of album", "", 7),
         ),
         (
             "POST /albums/01/recordings",
             token,
-            changes(Resource::AlbumRecordings(0)),
+            ("recordings of album", "", 0),
         ),
-        (
-            "PUT /recordings/7/audio",
-            token,
-            changes(Resource::Audio(7)),
-        ),
+        ("PUT /recordings/7/audio", token, ("audio", "", 7)),
         (
             "PUT /recordings/x/album",
             token,
-            changes(Resource::RecordingAlbum(0)),
+            ("album of recording", "", 0),
         ),
+        ("DELETE /recordings/7", token, ("recording", "", 7)),
+        ("DELETE /albums/7", LONGEST, ("album", "", 7)),
+        ("DELETE /albums/7", TOO_LONG, ("token", "", 0)),
+        ("DELETE /albums/7", "", ("token", "", 0)),
+        ("DELETE /albums/7", "Request-Token: \r\n", ("token", "", 0)),
         (
-            "DELETE /recordings/7",
-            token,
-            changes(Resource::Recording(7)),
+            "DELETE /albums/7",
+            "Request-Token: a_b\r\n",
+            ("token", "", 0),
         ),
         (
             "DELETE /albums/7",
-            longest.as_str(),
-            changes(Resource::Album(7)),
+            "Request-Token: \u{fc}\r\n",
+            ("token", "", 0),
         ),
-        ("DELETE /albums/7", too_long.as_str(), NO_TOKEN),
-        ("DELETE /albums/7", "", NO_TOKEN),
-        ("DELETE /albums/7", "Request-Token: \r\n", NO_TOKEN),
-        ("DELETE /albums/7", "Request-Token: a_b\r\n", NO_TOKEN),
-        ("DELETE /albums/7", "Request-Token: \u{fc}\r\n", NO_TOKEN),
         (
             "DELETE /albums/7",
             "Request-Token: a\r\nrequest-token: a\r\n",
-            NO_TOKEN,
+            ("token", "", 0),
         ),
     ] {
         assert_eq!(rt;
@@ -148,35 +134,42 @@ fn requests_ask(rt: HostRuntime) -> Result<(), Fail> {
     Ok(())
 }
 
-/// What is wanted: what it is, the id that it names, an album, a name, and its bytes.
-fn shown(wanted: &Wanted) -> (&'static str, u32, Option<u32>, &str, &[u8]) {
+/// What is wanted: a word for it, the id that it names, an album, and the lengths of its name and of
+/// its bytes.
+type Shown = (&'static str, u32, Option<u32>, usize, usize);
+
+fn shown(wanted: &Wanted) -> Shown {
     match wanted {
-        Wanted::Malformed(reply) => {
-            (
-                "malformed",
-                u32::from(reply.status),
-                None,
-                "",
-                reply.body.as_slice(),
-            )
+        Wanted::Malformed(reply) => (cause_of(reply.body.as_slice()), 0, None, 0, 0),
+        Wanted::Command(Command::NewAlbum { name }) => {
+            ("new album", 0, None, name.as_str().len(), 0)
         }
-        Wanted::Command(Command::NewAlbum { name }) => ("new album", 0, None, name.as_str(), b""),
         Wanted::Command(Command::Import { album, name, bytes }) => {
-            ("import", 0, *album, name.as_str(), bytes.as_slice())
+            ("import", 0, *album, name.as_str().len(), bytes.len())
         }
         Wanted::Command(Command::Retake { recording, bytes }) => {
-            ("retake", *recording, None, "", bytes.as_slice())
+            ("retake", *recording, None, 0, bytes.len())
         }
         Wanted::Command(Command::Regroup { recording, album }) => {
-            ("regroup", *recording, *album, "", b"")
+            ("regroup", *recording, *album, 0, 0)
         }
-        Wanted::Command(Command::RemoveRecording(id)) => ("remove recording", *id, None, "", b""),
-        Wanted::Command(Command::RemoveAlbum(id)) => ("remove album", *id, None, "", b""),
+        Wanted::Command(Command::RemoveRecording(id)) => ("remove recording", *id, None, 0, 0),
+        Wanted::Command(Command::RemoveAlbum(id)) => ("remove album", *id, None, 0, 0),
     }
 }
 
-/// What a request wants of that line, under that name and with that body.
-fn want(alloc: Global, line: &str, fields: &str, body: &str) -> Result<Option<Wanted>, Memory> {
+fn cause_of(body: &[u8]) -> &'static str {
+    if body == br#"{"error":"name"}"#.as_slice() {
+        "name"
+    } else if body == br#"{"error":"body"}"#.as_slice() {
+        "body"
+    } else {
+        "other"
+    }
+}
+
+/// What a request of that line, these header lines and that body wants.
+fn wants(alloc: Global, line: &str, fields: &str, body: &str) -> Result<Option<Shown>, Memory> {
     let head = format!(in alloc; "{line} HTTP/1.1\r\nRequest-Token: t\r\n{fields}\r\n")?;
     let body = Bytes::copy(alloc, body.as_bytes())?;
     let paths = Paths::new(alloc)?;
@@ -186,7 +179,8 @@ fn want(alloc: Global, line: &str, fields: &str, body: &str) -> Result<Option<Wa
         HeadRead::Head(heading) => {
             match ask_for(&paths, inbox.bytes(), &heading, body.as_slice()) {
                 Asking::Change { resource, .. } => {
-                    Ok(Some(wanted(alloc, resource, inbox.bytes(), &heading, body)?))
+                    let wanted = wanted(alloc, resource, inbox.bytes(), &heading, body)?;
+                    Ok(Some(shown(&wanted)))
                 }
                 Asking::Refused { .. } | Asking::Question(_) => Ok(None),
             }
@@ -198,93 +192,70 @@ fn want(alloc: Global, line: &str, fields: &str, body: &str) -> Result<Option<Wa
 #[test]
 fn changes_want(rt: HostRuntime) -> Result<(), Fail> {
     let alloc = rt.alloc();
-    let no_name = (
-        "malformed",
-        400,
-        None,
-        "",
-        br#"{"error":"name"}"#.as_slice(),
-    );
-    let no_body = (
-        "malformed",
-        400,
-        None,
-        "",
-        br#"{"error":"body"}"#.as_slice(),
-    );
     let two = "Recording-Name: A\r\nrecording-name: A\r\n";
-    for (line, fields, body, wants) in [
+    let umlaut = "Recording-Name: F\u{fc}r\r\n";
+    for (line, fields, body, want) in [
         (
             "POST /albums",
             two,
             r#"{"name":"B"}"#,
-            ("new album", 0, None, "B", b"".as_slice()),
+            ("new album", 0, None, 1, 0),
         ),
-        ("POST /albums", "", r#"{"name":1}"#, no_body),
-        ("POST /recordings", "", "R", ("import", 0, None, "", b"R")),
-        (
-            "POST /recordings",
-            "Recording-Name: F\u{fc}r\r\n",
-            "",
-            ("import", 0, None, "F\u{fc}r", b""),
-        ),
-        ("POST /recordings", two, "R", no_name),
-        ("POST /albums/0/recordings", two, "R", no_name),
+        ("POST /albums", "", r#"{"name":1}"#, ("body", 0, None, 0, 0)),
+        ("POST /recordings", "", "RI", ("import", 0, None, 0, 2)),
+        ("POST /recordings", umlaut, "", ("import", 0, None, 4, 0)),
+        ("POST /recordings", two, "RI", ("name", 0, None, 0, 0)),
         (
             "POST /albums/3/recordings",
-            "Recording-Name: A\r\n",
-            "R",
-            ("import", 0, Some(3), "A", b"R"),
+            umlaut,
+            "RI",
+            ("import", 0, Some(3), 4, 2),
+        ),
+        (
+            "POST /albums/0/recordings",
+            two,
+            "RI",
+            ("name", 0, None, 0, 0),
         ),
         (
             "PUT /recordings/3/audio",
             two,
-            "R",
-            ("retake", 3, None, "", b"R"),
+            "RI",
+            ("retake", 3, None, 0, 2),
         ),
         (
             "PUT /recordings/3/album",
             "",
             r#"{"album":4}"#,
-            ("regroup", 3, Some(4), "", b""),
+            ("regroup", 3, Some(4), 0, 0),
         ),
         (
             "PUT /recordings/3/album",
             "",
             r#"{"album":null}"#,
-            ("regroup", 3, None, "", b""),
+            ("regroup", 3, None, 0, 0),
         ),
-        ("PUT /recordings/3/album", "", r#"{"album":0}"#, no_body),
+        (
+            "PUT /recordings/3/album",
+            "",
+            r#"{"album":0}"#,
+            ("body", 0, None, 0, 0),
+        ),
         (
             "DELETE /recordings/3",
             two,
-            "R",
-            ("remove recording", 3, None, "", b""),
+            "RI",
+            ("remove recording", 3, None, 0, 0),
         ),
         (
             "DELETE /albums/3",
             "",
-            "R",
-            ("remove album", 3, None, "", b""),
+            "RI",
+            ("remove album", 3, None, 0, 0),
         ),
     ] {
-        let wanted = want(alloc, line, fields, body)?;
-        assert_eq!(rt;
-            wanted.as_ref().map(shown),
-            Some(wants),
-            "{line} {fields} {body}"
-        );
-    }
-    for (name, is) in [
-        (Field::Absent, true),
-        (Field::Value(b""), true),
-        (Field::Value([b'n'; 200].as_slice()), true),
-        (Field::Value([b'n'; 201].as_slice()), false),
-        (Field::Value(b"a\x1f"), false),
-        (Field::Value(b"\xc3"), false),
-        (Field::Repeated, false),
-    ] {
-        assert_eq!(rt; name_asked(alloc, name)?.is_some(), is);
+        let found = wants(alloc, line, fields, body)?;
+        assert_eq!(rt; found, Some(want), "{line} {fields} {body}");
     }
     Ok(())
 }
@@ -329,6 +300,23 @@ fn requests_have_marks(rt: HostRuntime) -> Result<(), Fail> {
             body.as_bytes(),
         );
         assert_eq!(rt; found, mark.to_be_bytes(), "{method} {target}");
+    }
+    Ok(())
+}
+
+#[test]
+fn imports_have_names(rt: HostRuntime) -> Result<(), Fail> {
+    let alloc = rt.alloc();
+    for (name, is) in [
+        (Field::Absent, true),
+        (Field::Value(b""), true),
+        (Field::Value([b'n'; 200].as_slice()), true),
+        (Field::Value([b'n'; 201].as_slice()), false),
+        (Field::Value(b"a\x1f"), false),
+        (Field::Value(b"\xc3"), false),
+        (Field::Repeated, false),
+    ] {
+        assert_eq!(rt; name_asked(alloc, name)?.is_some(), is);
     }
     Ok(())
 }

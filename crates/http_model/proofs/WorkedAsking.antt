@@ -1,18 +1,19 @@
 -- Worked rows: what framed requests ask.
-use Rattle.std.proofs.Common.{◌≡◌, ℕ, List, [], ◌∷◌, ◌++◌, None, Some, codes, refl}
+use Rattle.std.proofs.Common.{◌≡◌, ℕ, List, [], ◌∷◌, None, Some, codes, refl}
 use Rattle.std.specs.Char.{encode_utf8}
 use Rattle.std.specs.Str.{chars, is_utf8}
 use Rattle.httparse.proofs.OnLiterals.{httparse_on_literals}
-use Rattle.httparse.specs.Grammar.{RequestHead, Field, crlf}
+use Rattle.httparse.specs.Grammar.{Field, crlf}
 use Rattle.matchit.proofs.OnLiterals.{matchit_on_literals}
 use Rattle.md5.specs.Md5.{block_words, rounds, compress, hash_after, digest_bytes, md5}
 use Rattle.serde_json.proofs.OnLiterals.{serde_json_on_literals}
+use Rattle.http_routes.specs.declared.resources.Resource.TheVariants as at
 use Rattle.http_routes.specs.Ids.{is_id}
 use Rattle.http_model.specs.declared.refusals.AskingRefusal.TheVariants.{NoRoute, Method, Token, Name, Body}
 use Rattle.http_model.specs.declared.wishes.Command.TheVariants.{NewAlbum, Import, Retake, Regroup, RemoveRecording, RemoveAlbum}
 use Rattle.http_model.specs.declared.wishes.Question.TheVariants as about
 use Rattle.http_model.specs.declared.wishes.Wanted.TheVariants as wanted
-use Rattle.http_model.specs.Asking.{Wish, refused, question, change, allows_of, asked_of, mark_of, name_given, token_in}
+use Rattle.http_model.specs.Asking.{refused, question, change, allows_of, asked_of, mark_of, name_given, token_in, wanted_at}
 use Rattle.http_model.specs.Framing as given
 use Rattle.http_model.specs.Refusals.{asking_refusal}
 use Rattle.http_model.specs.Requests.{Framed}
@@ -94,6 +95,26 @@ pub asked_of-body : asked_of (row (codes "PUT") (codes "/recordings/7/album") (t
     ≡ change (codes "t") (mark_of (codes "PUT") (codes "/recordings/7/album") [] (codes "{}")) (wanted.Malformed (asking_refusal Body))
 unfolding matchit_on_literals httparse_on_literals serde_json_on_literals is_utf8 chars encode_utf8
 asked_of-body = refl
+
+-- What bodies and names say, row by row: a new album, another file, an album that is chosen, and none.
+pub wanted_at-albums : wanted_at at.Albums [] (codes "{\"name\":\"A\"}") ≡ wanted.Command (NewAlbum (codes "A"))
+unfolding serde_json_on_literals is_utf8 chars encode_utf8
+wanted_at-albums = refl
+
+pub wanted_at-audio : wanted_at (at.Audio 7) [] (1 ∷ []) ≡ wanted.Command (Retake 7 (1 ∷ []))
+wanted_at-audio = refl
+
+pub wanted_at-regroup : wanted_at (at.RecordingAlbum 7) [] (codes "{\"album\":3}") ∷ wanted_at (at.RecordingAlbum 7) [] (codes "{\"album\":null}") ∷ []
+    ≡ wanted.Command (Regroup 7 (Some 3)) ∷ wanted.Command (Regroup 7 None) ∷ []
+unfolding serde_json_on_literals is_utf8 chars encode_utf8
+wanted_at-regroup = refl
+
+-- An album goes, whatever the body is. Two names refuse an import.
+pub wanted_at-album : wanted_at (at.Album 7) [] (codes "{") ≡ wanted.Command (RemoveAlbum 7)
+wanted_at-album = refl
+
+pub wanted_at-names : wanted_at at.Recordings (codes "A" ∷ codes "A" ∷ []) (1 ∷ []) ≡ wanted.Malformed (asking_refusal Name)
+wanted_at-names = refl
 
 -- No name is the empty one, and two are none.
 pub name_given-each : name_given [] ∷ name_given (codes "A" ∷ []) ∷ name_given (codes "A" ∷ codes "A" ∷ []) ∷ name_given ((31 ∷ []) ∷ []) ∷ []

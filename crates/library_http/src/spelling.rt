@@ -2,11 +2,9 @@
 ghost use Rattle.std.specs.Prelude.{◌≡◌, IfOk, false, true, string_bytes};
 ghost use Rattle.library_model.specs.Replies.{refusal};
 ghost use Rattle.http_model.specs.Spelling as spelling;
-ghost use Rattle.http_model.specs.Spelling.{spelled, spelled_head, spelled_head_with};
-ghost use Rattle.http_routes.specs.Routes.{methods_if, methods_of};
+ghost use Rattle.http_model.specs.Spelling.{spelled, spelled_head};
 ghost use Rattle.library_model.specs.declared.refusals.Refusal.TheVariants as cause;
 
-use http_routes::Route;
 use lib_base::Memory;
 use library_model::{BodyKind, Reply};
 use std::alloc::Global;
@@ -55,39 +53,6 @@ pub fn closing_memory_reply() -> &'static [u8]
     ensures { result.now ≡ spelled true (refusal cause.Memory) }
 {
     CLOSING_MEMORY_REPLY
-}
-
-/// The lines of a reply up to its body, after which the connection closes or not. One of them names
-/// the methods of that route, where there is one: so of a reply of 405 (RFC 9110 section 15.5.6).
-pub fn spell_head(
-    alloc: Global,
-    reply: &Reply,
-    allows: Option<Route>,
-    closes: bool,
-) -> Result<String, Memory>
-    ensures { IfOk result (λ text. string_bytes text ≡ spelled_head_with closes (methods_if allows) reply.now) }
-{
-    match allows {
-        Some(route) => head_with(alloc, reply, route, closes),
-        None => head(alloc, reply, closes),
-    }
-}
-
-/// The lines of a reply up to its body, with one that names the methods of a route.
-fn head_with(alloc: Global, reply: &Reply, route: Route, closes: bool) -> Result<String, Memory>
-    ensures { IfOk result (λ text. string_bytes text ≡ spelled_head_with closes (methods_of route) reply.now) }
-{
-    let length = reply.body.len();
-    let text = format!(in alloc;
-        "HTTP/1.1 {} {}\r\nContent-Type: {}\r\nAllow: {}\r\nContent-Length: {}\r\n{}\r\n",
-        reply.status,
-        reason(reply.status),
-        media_type(reply.kind),
-        route.allowed(),
-        length,
-        closing(closes)
-    )?;
-    Ok(text)
 }
 
 /// The reason phrase of a status (RFC 9110 section 15).

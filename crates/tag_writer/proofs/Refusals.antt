@@ -1,5 +1,5 @@
 -- What refuses a file.
-use Rattle.std.proofs.Common.{◌≡◌, inl, inr, ◌≤◌, ◌+◌, ◌-◌, ℕ, List, length, Option, None, Some, Result, Ok, Err, refl, ap, sym, ◌∙◌, subst, arith}
+use Rattle.std.proofs.Common.{◌≡◌, inl, inr, ◌≤◌, ◌+◌, ◌-◌, ℕ, List, length, Option, None, Some, refl, ap, sym, ◌∙◌, subst, arith}
 use Rattle.lib_base.specs.Kinds.{kind_named}
 use Rattle.lib_base.specs.Sounds.{part}
 use Rattle.lib_base.specs.declared.files.Kind.{Kind}
@@ -8,10 +8,9 @@ use Rattle.lib_base.specs.declared.files.Span.{Span}
 use Rattle.lib_base.specs.declared.outcomes.Broken.{Broken as Fault}
 use Rattle.lib_base.specs.declared.outcomes.Refused.{Refused}
 use Rattle.lib_base.specs.declared.outcomes.Refused.TheVariants.{Broken, Memory}
-use Rattle.file_model.specs.declared.comment_rules.CommentBreak.{CommentBreak}
 use Rattle.file_model.specs.declared.comment_rules.KindRule.TheVariants.{OtherKind}
-use Rattle.file_model.specs.Comments.{Comments, comments_at}
-use Rattle.file_model.specs.Files.{kind_rule_of, in_file, comments_in, ReadsAs, Reads}
+use Rattle.file_model.specs.Comments.{comments_at}
+use Rattle.file_model.specs.Files.{kind_rule_of, in_file, ReadsAs, Reads}
 use Rattle.file_model.specs.Reading.{broken}
 use Rattle.file_model.proofs.CommentLaws.{breaks_inside}
 use Rattle.flac_stream.specs.Answers.{IsRefusalOf as IsFlacOnlyRefusal}

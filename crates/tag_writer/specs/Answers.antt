@@ -1,5 +1,5 @@
 -- What accepting a file answers.
-use Rattle.std.specs.Prelude.{◌≡◌, ◌≤◌, ◌+◌, ◌-◌, ℕ, List, length, ⊤, Option, Some, Result, Ok, Err}
+use Rattle.std.specs.Prelude.{◌≡◌, ◌≤◌, ◌+◌, ◌-◌, ℕ, List, length, ⊤, Option, Some, Ok, Err}
 use Rattle.lib_base.specs.Kinds.{kind_named}
 use Rattle.lib_base.specs.Sounds.{part}
 use Rattle.lib_base.specs.declared.files.Kind.TheVariants.{Wave as WaveKind, Flac as FlacKind}

@@ -1,7 +1,7 @@
 //! Files of both kinds, accepted and refused.
-use crate::{Accepted, accept};
+use crate::{Accepted, AnySound, accept};
 use file_model::{CommentRule, FlacRule, KindRule, WaveRule};
-use lib_base::{Broken, Refused, Rule};
+use lib_base::{Broken, Refused, Rule, Scratch, Sound};
 use std::alloc::Global;
 use std::test::Fail;
 
@@ -29,7 +29,7 @@ enum Answer {
 }
 
 /// What accepting bytes answers.
-fn answer(alloc: Global, bytes: &[u8]) -> Answer {
+fn answer_to(alloc: Global, bytes: &[u8]) -> Answer {
     match accept(alloc, bytes) {
         Ok(Accepted::Wave(wave)) => Answer::Wave(wave.frames()),
         Ok(Accepted::Flac(file)) => Answer::Flac(file.frames()),
@@ -103,13 +103,13 @@ fn edits_of_files(rt: HostRuntime) -> Result<(), Fail> {
         assert!(rt; place < bytes.len());
         bytes[place] = byte;
         assert_eq!(rt;
-            answer(rt.alloc(), bytes.as_slice()),
+            answer_to(rt.alloc(), bytes.as_slice()),
             wanted,
             "byte {place} as {byte}"
         );
     }
     assert_eq!(rt;
-        answer(rt.alloc(), b"".as_slice()),
+        answer_to(rt.alloc(), b"".as_slice()),
         by_rule(KindRule::OtherKind.rule(), 0)
     );
     Ok(())
@@ -119,7 +119,7 @@ fn edits_of_files(rt: HostRuntime) -> Result<(), Fail> {
 fn commented(alloc: Global, content: &[u8]) -> Result<Vec<u8>, Fail> {
     let mut bytes = Vec::from_slice(alloc, &FLAC[..42])?;
     bytes[4] = 0x00;
-    bytes.extend_from_slice([0x84, 0x00, 0x00, content.len() as u8].as_slice())?;
+    bytes.extend_from_slice([0x84, 0x00, 0x00, content.len().min(255) as u8].as_slice())?;
     bytes.extend_from_slice(content)?;
     bytes.extend_from_slice(&FLAC[42..])?;
     Ok(bytes)
@@ -149,7 +149,27 @@ fn comments_of_files(rt: HostRuntime) -> Result<(), Fail> {
     ];
     for (content, wanted) in rows {
         let bytes = commented(rt.alloc(), content)?;
-        assert_eq!(rt; answer(rt.alloc(), bytes.as_slice()), wanted);
+        assert_eq!(rt; answer_to(rt.alloc(), bytes.as_slice()), wanted);
+    }
+    Ok(())
+}
+
+/// Each row: a file of samples of 1, and how many each channel has.
+#[test]
+fn sounds_of_both_kinds(rt: HostRuntime) -> Result<(), Fail> {
+    let rows = [(WAVE.as_slice(), 2), (FLAC.as_slice(), 16)];
+    for (bytes, frames) in rows {
+        assert!(rt; frames >= 2);
+        let accepted = accept(rt.alloc(), bytes)?;
+        let sound = AnySound::over(bytes, &accepted);
+        assert_eq!(rt;
+            (sound.channels(), sound.depth(), sound.frames()),
+            (1, 16, frames)
+        );
+        let mut scratch = Scratch::new(rt.alloc(), sound.scratch_size())?;
+        let mut out = [7, 7];
+        sound.fill(0, frames - 2, &mut out, &mut scratch);
+        assert_eq!(rt; out, [1, 1]);
     }
     Ok(())
 }

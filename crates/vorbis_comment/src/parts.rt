@@ -59,7 +59,8 @@ pub(crate) fn read_parts(alloc: Global, content: &[u8]) -> Result<Parts, Refused
 /// What stands before the comments.
 #[tactic(auto, unfolding(crate::specs::Heads::head_at))]
 fn read_head(content: &[u8]) -> Result<Head, CommentBreak>
-    ensures gives { Gives (λ head. ((text_in content.now head.vendor, head.count), drop head.end content.now))
+    ensures gives { Gives
+        (λ head. ((text_in content.now head.vendor, head.count), drop head.end content.now))
         result (head_at content.now) }
     ensures within { IfOk result (λ head. IsWithin content.now head.vendor) }
     ensures inside { IfOk result (λ head. head.end ≤ length content.now) }

@@ -1,7 +1,6 @@
-use Rattle.std.proofs.Common.{◌≡◌, ◌∙◌, ℕ, List, length, sym, subst}
+use Rattle.std.proofs.Common.{◌≡◌, ℕ, List, sym, subst}
 use Rattle.std.specs.Prelude.{ℤ}
 use Rattle.file_model.specs.FlacFile.{IsFlac}
-use Rattle.file_model.specs.Pcm.{Pcm}
 use Rattle.flac_stream.proofs.Endings.{end_refused}
 use Rattle.flac_stream.proofs.FileSounds.{IsFlac_sounds}
 use Rattle.flac_stream.proofs.Listing.{decoded_is}

@@ -1,5 +1,4 @@
 use Rattle.std.proofs.Common.{arith}
-use Rattle.flac_stream.proofs.Endings.{is_started}
 use Rattle.flac_stream.proofs.Infos.{info_fits}
 use Rattle.flac_stream.proofs.decoding.decode.Goals as goal
 

@@ -1,4 +1,4 @@
-use Rattle.std.proofs.Common.{◌≡◌, ◌∙◌, ap, sym}
+use Rattle.std.proofs.Common.{◌∙◌, ap, sym}
 use Rattle.file_model.specs.declared.flac_rules.FlacRule.TheVariants.{OtherTotal, OtherMd5}
 use Rattle.file_model.specs.FlacFile.{breaks_at, is_total}
 use Rattle.flac_stream.proofs.Endings.{other_total, other_md5, both_met}
