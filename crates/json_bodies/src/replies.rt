@@ -44,18 +44,23 @@ fn recording_text(alloc: Global, row: &RecordingRow) -> Result<String, Memory>
     ensures { IfOk result (λ text. string_bytes text ≡ compact_text (recording_data row.now)) }
 {
     let peak = peak_text(alloc, row.summary.peak)?;
-    let value = recording_value(alloc, row, peak.as_str())?;
+    let value = recording_value(alloc, row, kind_text(row.kind), peak.as_str())?;
     let text = value.to_string(alloc)?;
     Ok(text)
 }
 
-/// The recording of a row, of which that is the peak's text.
-fn recording_value(alloc: Global, row: &RecordingRow, peak: &str) -> Result<Value, AllocError>
-    requires { peak.now ≡ peak_text row.now.summary.peak }
+/// The recording of a row, of which those are the texts of the kind and of the peak.
+fn recording_value(
+    alloc: Global,
+    row: &RecordingRow,
+    kind: &str,
+    peak: &str,
+) -> Result<Value, AllocError>
+    requires kind { kind.now ≡ kind_text row.now.kind }
+    requires peak { peak.now ≡ peak_text row.now.summary.peak }
     ensures { IfOk result (λ value. view value ≡ recording_data row.now) }
 {
     let summary = row.summary;
-    let kind = kind_text(row.kind);
     json!(in alloc; {
         "channels": row.channels,
         "depth": row.depth,

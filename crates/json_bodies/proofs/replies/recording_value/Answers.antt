@@ -83,7 +83,7 @@ kind_put : (c : goal.In-Ok-json-24) → members_view c.json-put-6.new.map.entrie
 unfolding serde_json_on_literals
 kind_put c =
     let before = id_put c in
-    let text = c.kind.ensures in
+    let text = c.requires.kind in
     search rules
 
 loudness_put : (c : goal.In-Ok-json-24) → members_view c.json-put-7.new.map.entries ≡ with_loudness c.args.row.now no_members
@@ -104,7 +104,7 @@ peak_put : (c : goal.In-Ok-json-24) → members_view c.json-put-9.new.map.entrie
 unfolding serde_json_on_literals
 peak_put c =
     let before = momentary_put c in
-    let text = c.requires in
+    let text = c.requires.peak in
     search rules
 
 range_put : (c : goal.In-Ok-json-24) → members_view c.json-put-10.new.map.entries ≡ with_range c.args.row.now no_members
