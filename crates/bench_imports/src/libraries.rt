@@ -19,9 +19,9 @@ pub struct Opened {
 
 impl Opened {
     /// A library that is opened over empty tables.
-    pub fn new(alloc: Global) -> Result<Opened, Memory> {
+    pub fn new<R: Threads + Sync>(rt: &R, alloc: Global) -> Result<Opened, Memory> {
         let mut keeper = MemKeeper::new(Tables::empty(alloc), Vec::new(alloc));
-        let Ok(library) = Library::open(alloc, &mut keeper) else {
+        let Ok(library) = Library::open(rt, alloc, &mut keeper) else {
             return Err(Memory);
         };
         Ok(Opened {

@@ -5,7 +5,7 @@ ghost use Rattle.measure_pool.specs.declared.plans.TheConstants.{MOST_WORKERS};
 use crate::{Library, OpenRefusal, Staged, ask, commit, stage};
 use keeper_store::{MemKeeper, MemVault, Tables};
 use lib_base::{Bytes, Memory, Steps};
-use library_model::{Command, Question, Reply, Request};
+use library_model::{BadRow, Command, Question, Reply, Request, RowRule, RowTable};
 use measure_pool::{Gate, OpenGate};
 use std::alloc::Global;
 use std::marker::Brand;
@@ -24,10 +24,15 @@ struct Objects {
 
 /// The library of empty tables. One call of the keeper and one of the vault fail, or none at 0; the
 /// keeper's first opens the library.
-fn open(alloc: Global, keeper: u32, vault: u32) -> Result<Objects, Fail> {
+fn open<R: Threads + Sync>(
+    rt: &R,
+    alloc: Global,
+    keeper: u32,
+    vault: u32,
+) -> Result<Objects, Fail> {
     let mut keeper = MemKeeper::new(Tables::empty(alloc), [keeper].to_vec(alloc)?);
     let vault = MemVault::new(alloc, [vault].to_vec(alloc)?);
-    let library = Library::open(alloc, &mut keeper)?;
+    let library = Library::open(rt, alloc, &mut keeper)?;
     Ok(Objects {
         library,
         keeper,
@@ -81,22 +86,23 @@ fn import_by<R: Threads + Sync, G: Gate, L: Ledger>(
 }
 
 #[test]
-fn a_library_opens_over_empty_tables_alone(rt: HostRuntime) -> Result<(), Fail> {
+fn a_library_opens_over_tables_of_no_bad_row(rt: HostRuntime) -> Result<(), Fail> {
     let alloc = rt.alloc();
-    let first = OpenRefusal::BadRow {
-        table: 1,
+    let first = OpenRefusal::BadRow(BadRow {
+        table: RowTable::Counters,
         id: 1,
-        rule: 0,
-    };
+        rule: RowRule::OtherNumber,
+    });
     for (next_album, failing, want) in [
         (1, 2, None),
-        (2, 2, Some(first)),
+        (2, 2, None),
+        (0, 2, Some(first)),
         (1, 1, Some(OpenRefusal::KeeperFault)),
     ] {
         let mut tables = Tables::empty(alloc);
         tables.next_album = next_album;
         let mut keeper = MemKeeper::new(tables, [failing].to_vec(alloc)?);
-        let opened = Library::open(alloc, &mut keeper);
+        let opened = Library::open(&rt, alloc, &mut keeper);
         assert_eq!(rt;
             opened.err(),
             want,
@@ -185,7 +191,7 @@ fn cases() -> [(Asked, u16, &'static str); 15] {
 
 #[test]
 fn requests_are_answered_in_turn(rt: HostRuntime) -> Result<(), Fail> {
-    let mut objects = open(rt.alloc(), 2, 1)?;
+    let mut objects = open(&rt, rt.alloc(), 2, 1)?;
     for (asked, status, body) in cases() {
         let reply = match asked {
             Asked::Import(file) => import(&rt, &mut objects, file, 4, &OpenGate)?,
@@ -239,7 +245,7 @@ fn meets(own: &AtomicU64, other: &AtomicU64) -> bool {
 // A body that measures in one thread, job after job, waits in vain.
 #[test]
 fn two_jobs_meet(rt: HostRuntime) -> Result<(), Fail> {
-    let mut objects = open(rt.alloc(), 0, 0)?;
+    let mut objects = open(&rt, rt.alloc(), 0, 0)?;
     let gate = Meeting {
         first: AtomicU64::new(0),
         second: AtomicU64::new(0),

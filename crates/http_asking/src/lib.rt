@@ -8,8 +8,6 @@
 mod asking;
 mod fields;
 mod marks;
-#[cfg(test)]
-mod tests;
 mod wanting;
 
 pub use asking::{Asking, ask_for};

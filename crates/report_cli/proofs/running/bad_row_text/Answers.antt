@@ -1,5 +1,4 @@
-use Rattle.std.proofs.Common.{append_assoc}
 use Rattle.report_cli.proofs.running.bad_row_text.Goals as goal
 
 pub returns : goal.returns
-returns c = simp append_assoc c.in_ok-text.ensures.ok
+returns c = rw (c.number-table.ensures, c.number-rule.ensures) at c.row_text.ensures

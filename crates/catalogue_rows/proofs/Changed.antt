@@ -1,0 +1,249 @@
+-- Rows in memory after changes of the tables.
+use Rattle.std.proofs.Common.{◌≡◌, ◌≢◌, ◌==◌, ℕ, Bool, true, false, not, cond, List, [], ◌∷◌, map, nat_lt, Option, None, Some, refl, sym, ap, ◌∙◌, subst, arith}
+use Rattle.std.specs.List.{AllByRecursion, find}
+use Rattle.std.specs.Option.{option_map}
+use Rattle.std.proofs.lemmas.Bool.Decides.{nat_tests}
+use Rattle.lib_base.specs.declared.files.Measured.{Measured}
+use Rattle.keeper_store.specs.declared.contents.Tables.{Tables}
+use Rattle.keeper_store.specs.declared.row_types.AlbumRow.{AlbumRow}
+use Rattle.keeper_store.specs.declared.row_types.RecordingRow.{RecordingRow}
+use Rattle.keeper_store.specs.declared.row_types.SegmentRow.{SegmentRow}
+use Rattle.keeper_store.specs.declared.contents.Change.TheVariants.{PutRecording, PutSegments, DropRecording}
+use Rattle.keeper_store.specs.Changes.{changed}
+use Rattle.keeper_store.specs.EnergyBytes.{energies_in}
+use Rattle.keeper_store.specs.Puts.{put, without, recording_less, segments_less, recording_id}
+use Rattle.keeper_store.proofs.Putting.{map-put, AllByRecursion-put, AllByRecursion-weaken}
+use Rattle.keeper_store.proofs.Dropping.{map-without, AllByRecursion-without}
+use Rattle.album_merge.specs.Members.{IsAlbumOf}
+use Rattle.album_merge.specs.Tallies.{Tallied, StandsForMeasured}
+use Rattle.library_model.specs.RowRules.{measured_in, members_in, is_in_album, energies_of_take}
+use Rattle.catalogue_rows.specs.declared.kept.KeptAlbum.{KeptAlbum}
+use Rattle.catalogue_rows.specs.declared.kept.KeptRecording.{KeptRecording}
+use Rattle.catalogue_rows.specs.declared.tallied.TalliedRows.{TalliedRows}
+use Rattle.catalogue_rows.specs.KeptOrders.{kept_album_id, kept_recording_less, kept_recording_id}
+use Rattle.catalogue_rows.specs.Making.{AreAlone, IsAlone, IsUnnamed}
+use Rattle.catalogue_rows.specs.Tallied.{HasOwn, Holds, IsBeside, IsInAlbum, album_of, album_row, recording_row, numbers_of}
+
+-- a row found among parts
+pub find_parts : {K A : Type 0} (number : A → ℕ) (n : ℕ) (f : K → A) (ks : List K)
+    → option_map f (find (λ k. number (f k) == n) ks) ≡ find (λ a. number a == n) (map f ks)
+find_parts number n f [] = refl
+find_parts {K} {A} number n f (k ∷ ks) = cases (find_parts number n f ks) (number (f k) == n)
+  where
+    cases : option_map f (find (λ x. number (f x) == n) ks) ≡ find (λ a. number a == n) (map f ks) → (here : Bool)
+        → option_map f (cond here (Some k) (find (λ x. number (f x) == n) ks))
+        ≡ cond here (Some (f k)) (find (λ a. number a == n) (map f ks))
+    cases rest true = refl
+    cases rest false = rest
+
+-- a recording in no album changes no album's members
+members_put : (other : ℕ) (row : RecordingRow) (rows : List RecordingRow) → row.album ≡ None
+    → AllByRecursion (λ (r : RecordingRow). r.id ≡ row.id → r.album ≡ None) rows
+    → members_in other (put recording_less row rows) ≡ members_in other rows
+members_put other row [] alone replaced = rw alone refl
+members_put other row (r ∷ rows) alone replaced =
+    cases (members_put other row rows alone replaced.1) (nat_lt r.id row.id) refl (nat_lt row.id r.id) refl
+  where
+    In : List RecordingRow → List RecordingRow
+    In rs = members_in other rs
+
+    cases : members_in other (put recording_less row rows) ≡ members_in other rows
+        → (first : Bool) → nat_lt r.id row.id ≡ first → (second : Bool) → nat_lt row.id r.id ≡ second
+        → members_in other (cond first (r ∷ put recording_less row rows) (cond second (row ∷ r ∷ rows) (row ∷ rows)))
+        ≡ members_in other (r ∷ rows)
+    cases rest true is second also =
+        ap (λ (l : List RecordingRow). cond (is_in_album other r.album) (r ∷ l) l) rest
+    cases rest false is true also = rw alone refl
+    cases rest false is false also =
+        let same : r.id ≡ row.id = grind (arith, nat_tests, is, also) in
+        let outside : r.album ≡ None = replaced.0 same in
+        rw (alone, outside) refl
+
+-- nor does one that goes
+members_without : (other id : ℕ) (rows : List RecordingRow) → AllByRecursion (λ (r : RecordingRow). r.id ≡ id → r.album ≡ None) rows
+    → members_in other (without recording_id id rows) ≡ members_in other rows
+members_without other id [] alone = refl
+members_without other id (r ∷ rows) alone =
+    cases (members_without other id rows alone.1) (r.id == id) refl
+  where
+    cases : members_in other (without recording_id id rows) ≡ members_in other rows → (here : Bool) → (r.id == id) ≡ here
+        → members_in other (cond (not here) (r ∷ without recording_id id rows) (without recording_id id rows)) ≡ members_in other (r ∷ rows)
+    cases rest true is =
+        let same : r.id ≡ id = grind (arith, nat_tests, is) in
+        let outside : r.album ≡ None = alone.0 same in
+        rw outside rest
+    cases rest false is = ap (λ (l : List RecordingRow). cond (is_in_album other r.album) (r ∷ l) l) rest
+
+-- rows hold the tables with a recording in no album more
+pub Holds-put_alone : (rows next : TalliedRows) (t : Tables) (row : RecordingRow) (tally : Tallied) → Holds rows t → IsAlone row t
+    → StandsForMeasured tally (measured_in t row)
+    → next.recordings.items ≡ put kept_recording_less (record { row = row; tally = Some tally }) rows.recordings.items
+    → numbers_of next ≡ numbers_of rows → next.albums.items ≡ rows.albums.items → next.replies.items ≡ rows.replies.items
+    → Holds next (changed (PutRecording row) t)
+Holds-put_alone rows next t row tally holds alone stands put_is numbers albums replies = record {
+  numbers = numbers ∙ holds.numbers;
+  albums = ap (map album_row) albums ∙ holds.albums;
+  recordings = ap (map recording_row) put_is
+      ∙ map-put kept_recording_less recording_less recording_row (λ a b. refl) kept rows.recordings.items
+      ∙ ap (put recording_less row) holds.recordings;
+  replies = replies ∙ holds.replies;
+  in_albums = subst (λ (l : List KeptAlbum). AllByRecursion (IsInAlbum (changed (PutRecording row) t)) l) (sym albums)
+      (AllByRecursion-weaken (IsInAlbum t) (IsInAlbum (changed (PutRecording row) t)) still rows.albums.items holds.in_albums);
+  beside = subst (λ (l : List KeptRecording). AllByRecursion (IsBeside t) l) (sym put_is)
+      (AllByRecursion-put (IsBeside t) kept_recording_less kept rows.recordings.items its holds.beside);
+}
+  where
+    kept : KeptRecording
+    kept = record { row = row; tally = Some tally }
+
+    its : IsBeside t kept
+    its = rw alone.itself stands
+
+    still : (a : KeptAlbum) → IsInAlbum t a → IsInAlbum (changed (PutRecording row) t) a
+    still a is =
+        subst (λ (rs : List RecordingRow). IsAlbumOf a.members (map (λ (r : RecordingRow). (r.id, measured_in t r)) rs))
+        (sym (members_put a.row.id row t.recordings alone.itself alone.replaced)) is
+
+-- or with one less
+pub Holds-drop_alone : (rows next : TalliedRows) (t : Tables) (id : ℕ) → Holds rows t → AreAlone id t
+    → next.recordings.items ≡ without kept_recording_id id rows.recordings.items
+    → numbers_of next ≡ numbers_of rows → next.albums.items ≡ rows.albums.items → next.replies.items ≡ rows.replies.items
+    → Holds next (changed (DropRecording id) t)
+Holds-drop_alone rows next t id holds alone left numbers albums replies = record {
+  numbers = numbers ∙ holds.numbers;
+  albums = ap (map album_row) albums ∙ holds.albums;
+  recordings = ap (map recording_row) left
+      ∙ map-without kept_recording_id recording_id recording_row (λ a. refl) id rows.recordings.items
+      ∙ ap (without recording_id id) holds.recordings;
+  replies = replies ∙ holds.replies;
+  in_albums = subst (λ (l : List KeptAlbum). AllByRecursion (IsInAlbum (changed (DropRecording id) t)) l) (sym albums)
+      (AllByRecursion-weaken (IsInAlbum t) (IsInAlbum (changed (DropRecording id) t)) still rows.albums.items holds.in_albums);
+  beside = subst (λ (l : List KeptRecording). AllByRecursion (IsBeside t) l) (sym left)
+      (AllByRecursion-without (IsBeside t) kept_recording_id id rows.recordings.items holds.beside);
+}
+  where
+    still : (a : KeptAlbum) → IsInAlbum t a → IsInAlbum (changed (DropRecording id) t) a
+    still a is =
+        subst (λ (rs : List RecordingRow). IsAlbumOf a.members (map (λ (r : RecordingRow). (r.id, measured_in t r)) rs))
+        (sym (members_without a.row.id id t.recordings alone)) is
+
+-- what holds of all rows holds of the one that is found
+found_holds : {K : Type 0} (P : K → Type 0) (test : K → Bool) (k : K) (ks : List K) → Some k ≡ find test ks → AllByRecursion P ks
+    → P k × (test k ≡ true)
+found_holds P test k [] found all = (cc found, cc found)
+found_holds {K} P test k (x ∷ ks) found all = cases (λ more. found_holds P test k ks more all.1) (test x) refl found
+  where
+    same : Some k ≡ Some x → k ≡ x
+    same is = cc is
+
+    cases : (Some k ≡ find test ks → P k × (test k ≡ true)) → (here : Bool) → test x ≡ here → Some k ≡ cond here (Some x) (find test ks)
+        → P k × (test k ≡ true)
+    cases rest true is at = (
+      subst P (sym (same at)) all.0,
+      ap test (same at) ∙ is,
+    )
+    cases rest false is at = rest at
+
+-- the row of a recording, or of an album, by what is kept of it
+pub recording_found : (rows : TalliedRows) (t : Tables) (id : ℕ) (found : Option KeptRecording) → Holds rows t
+    → found ≡ find (λ (k : KeptRecording). kept_recording_id k == id) rows.recordings.items
+    → option_map recording_row found ≡ find (λ (row : RecordingRow). row.id == id) t.recordings
+recording_found rows t id found holds is =
+    ap (option_map recording_row) is ∙ find_parts (λ (r : RecordingRow). r.id) id recording_row rows.recordings.items
+    ∙ ap (find (λ (row : RecordingRow). row.id == id)) holds.recordings
+
+pub album_found : (rows : TalliedRows) (t : Tables) (id : ℕ) (found : Option KeptAlbum) → Holds rows t
+    → found ≡ find (λ (k : KeptAlbum). kept_album_id k == id) rows.albums.items
+    → option_map album_row found ≡ find (λ (row : AlbumRow). row.id == id) t.albums
+album_found rows t id found holds is =
+    ap (option_map album_row) is ∙ find_parts (λ (r : AlbumRow). r.id) id album_row rows.albums.items
+    ∙ ap (find (λ (row : AlbumRow). row.id == id)) holds.albums
+
+-- what an album that is found stands for
+pub members_found : (rows : TalliedRows) (t : Tables) (id : ℕ) (kept : KeptAlbum) → Holds rows t
+    → Some kept ≡ find (λ (k : KeptAlbum). kept_album_id k == id) rows.albums.items → IsAlbumOf kept.members (album_of t t.recordings id)
+members_found rows t id kept holds is =
+    let found = found_holds (IsInAlbum t) (λ (k : KeptAlbum). kept_album_id k == id) kept rows.albums.items is holds.in_albums in
+    let passed : (kept.row.id == id) ≡ true = found.1 in
+    let same : kept.row.id ≡ id = grind (arith, nat_tests, passed) in
+    subst (λ (n : ℕ). IsAlbumOf kept.members (album_of t t.recordings n)) same found.0
+
+-- ---- segments
+
+-- the energies of another take stay
+energies_put : (take : ℕ) (row : SegmentRow) (rows : List SegmentRow) → row.take ≢ take
+    → energies_of_take take (put segments_less row rows) ≡ energies_of_take take rows
+energies_put take row [] apart =
+    let test : (row.take == take) ≡ false = grind (arith, nat_tests, apart) in rw test refl
+energies_put take row (s ∷ rows) apart =
+    cases (energies_put take row rows apart) (nat_lt s.take row.take) refl (nat_lt row.take s.take) refl
+  where
+    test : (row.take == take) ≡ false
+    test = grind (arith, nat_tests, apart)
+
+    cases : energies_of_take take (put segments_less row rows) ≡ energies_of_take take rows
+        → (first : Bool) → nat_lt s.take row.take ≡ first → (second : Bool) → nat_lt row.take s.take ≡ second
+        → energies_of_take take (cond first (s ∷ put segments_less row rows) (cond second (row ∷ s ∷ rows) (row ∷ rows)))
+        ≡ energies_of_take take (s ∷ rows)
+    cases rest true is second also = ap (λ (es : List ℕ). cond (s.take == take) (energies_in s.energies) es) rest
+    cases rest false is true also = rw test refl
+    cases rest false is false also =
+        let other : (s.take == take) ≡ false = grind (arith, nat_tests, is, also, apart) in
+        rw (test, other) refl
+
+-- rows hold what changes no recording's measure
+Holds-measured : (rows : TalliedRows) (t : Tables) (segments : List SegmentRow) → Holds rows t
+    → AllByRecursion (λ (r : RecordingRow). measured_in (record t { segments = segments }) r ≡ measured_in t r) t.recordings
+    → Holds rows (record t { segments = segments })
+Holds-measured rows t segments holds same = record {
+  numbers = holds.numbers;
+  albums = holds.albums;
+  recordings = holds.recordings;
+  replies = holds.replies;
+  in_albums = AllByRecursion-weaken (IsInAlbum t) (IsInAlbum (record t { segments = segments })) still rows.albums.items holds.in_albums;
+  beside = besides rows.recordings.items (subst (λ (rs : List RecordingRow).
+      AllByRecursion (λ (r : RecordingRow). measured_in (record t { segments = segments }) r ≡ measured_in t r) rs) (sym holds.recordings) same) holds.beside;
+}
+  where
+    of_album : (id : ℕ) (rs : List RecordingRow) → AllByRecursion (λ (r : RecordingRow). measured_in (record t { segments = segments }) r ≡ measured_in t r) rs
+        → album_of t rs id ≡ album_of (record t { segments = segments }) rs id
+    of_album id [] all = refl
+    of_album id (r ∷ rs) all = cases (of_album id rs all.1) (is_in_album id r.album)
+      where
+        first : measured_in (record t { segments = segments }) r ≡ measured_in t r
+        first = all.0
+
+        cases : album_of t rs id ≡ album_of (record t { segments = segments }) rs id → (here : Bool)
+            → map {B = ℕ × Measured} (λ (s : RecordingRow). (s.id, measured_in t s)) (cond here (r ∷ members_in id rs) (members_in id rs))
+            ≡ map {B = ℕ × Measured} (λ (s : RecordingRow). (s.id, measured_in (record t { segments = segments }) s)) (cond here (r ∷ members_in id rs) (members_in id rs))
+        cases rest true = rw (sym first) (ap (λ (l : List (ℕ × Measured)). (r.id, measured_in (record t { segments = segments }) r) ∷ l) rest)
+        cases rest false = rest
+
+    still : (a : KeptAlbum) → IsInAlbum t a → IsInAlbum (record t { segments = segments }) a
+    still a is = subst (λ (l : List (ℕ × Measured)). IsAlbumOf a.members l) (of_album a.row.id t.recordings same) is
+
+    besides : (ks : List KeptRecording)
+        → AllByRecursion (λ (r : RecordingRow). measured_in (record t { segments = segments }) r ≡ measured_in t r) (map recording_row ks)
+        → AllByRecursion (IsBeside t) ks → AllByRecursion (IsBeside (record t { segments = segments })) ks
+    besides [] all its = tt
+    besides (k ∷ ks) all its =
+        (subst (λ (m : Measured). HasOwn k.row.album k.tally m) (sym all.0) its.0, besides ks all.1 its.1)
+
+-- rows hold the tables with the segments of a take that no recording names
+pub Holds-put_segments : (rows : TalliedRows) (t : Tables) (row : SegmentRow) → Holds rows t → IsUnnamed row.take t
+    → Holds rows (changed (PutSegments row) t)
+Holds-put_segments rows t row holds unnamed =
+    Holds-measured rows t (put segments_less row t.segments) holds
+    (AllByRecursion-weaken (λ (r : RecordingRow). r.take ≡ row.take → ⊥)
+    (λ (r : RecordingRow). measured_in (record t { segments = put segments_less row t.segments }) r ≡ measured_in t r)
+    (λ r apart. ap (λ (es : List ℕ). measured_with r es) (energies_put r.take row t.segments (λ same. apart (sym same))))
+    t.recordings unnamed)
+  where
+    measured_with : RecordingRow → List ℕ → Measured
+    measured_with r es = record {
+      channels = r.channels;
+      depth = r.depth;
+      frames = r.summary.frames;
+      energies = es;
+      peak = r.summary.peak;
+    }

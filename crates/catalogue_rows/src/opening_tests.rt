@@ -1,0 +1,141 @@
+//! Tables that are opened, each with the bad row that is told.
+use crate::{NotOpened, open_rows};
+use keeper_store::{AlbumRow, RecordingRow, ReplyRow, Rows, SegmentRow, Tables, bytes_of};
+use lib_base::{Bytes, Kind, Memory, Summary, Text};
+use library_model::{BadRow, RowRule, RowTable};
+use std::alloc::Global;
+use std::test::Fail;
+
+/// The energy of a segment at 19 times the square of full scale a frame.
+const LOUD: u128 = 364_800 << 54;
+
+/// The levels of recordings of one block of such a segment and three silent ones, and a peak of
+/// full scale.
+fn summary_of(frames: u64, off: bool) -> Summary {
+    Summary {
+        frames,
+        loudness: Some(-790),
+        range: None,
+        momentary: Some(-790),
+        short_term: None,
+        true_peak: Some(0),
+        peak: 1 << 36,
+        gain: Some(if off { -1_011 } else { -1_010 }),
+    }
+}
+
+fn album(alloc: Global, id: u32, frames: u64, off: u32) -> AlbumRow {
+    AlbumRow {
+        id,
+        name: Text::of(String::new(alloc)),
+        summary: summary_of(frames, off == id),
+    }
+}
+
+fn recording(alloc: Global, id: u32, album: Option<u32>, take: u32, off: u32) -> RecordingRow {
+    RecordingRow {
+        id,
+        album,
+        name: Text::of(String::new(alloc)),
+        take,
+        kind: Kind::Wave,
+        channels: 1,
+        depth: 16,
+        digest: [0; 16],
+        summary: summary_of(19_200, off == id),
+    }
+}
+
+fn reply(alloc: Global, token: &str, status: u16) -> Result<ReplyRow, Memory> {
+    Ok(ReplyRow {
+        token: Text::of(String::from_str(alloc, token)?),
+        mark: [0; 16],
+        status,
+        body: Bytes::of(Vec::new(alloc)),
+    })
+}
+
+/// Two albums, five recordings, of which two are in none, and three replies. The summaries of these
+/// ids are a hundredth off, and the last reply has this status.
+fn tables(alloc: Global, album_off: u32, off: u32, status: u16) -> Result<Tables, Memory> {
+    let mut albums = Vec::new(alloc);
+    for (id, frames) in [(2, 38_400), (5, 19_200)] {
+        albums.push(album(alloc, id, frames, album_off))?;
+    }
+    let mut recordings = Vec::new(alloc);
+    for (id, album, take) in [
+        (1, Some(2), 9),
+        (3, Some(2), 7),
+        (4, None, 6),
+        (6, Some(5), 4),
+        (7, None, 3),
+    ] {
+        recordings.push(recording(alloc, id, album, take, off))?;
+    }
+    let mut segments = Vec::new(alloc);
+    for take in [3, 4, 6, 7, 9] {
+        let energies = bytes_of(alloc, &[LOUD, 0, 0, 0])?;
+        segments.push(SegmentRow { take, energies })?;
+    }
+    let mut replies = Vec::new(alloc);
+    for (token, status) in [("B", 200), ("b", 201), ("b-1", status)] {
+        replies.push(reply(alloc, token, status)?)?;
+    }
+    Ok(Tables {
+        next_album: 6,
+        next_recording: 8,
+        next_take: 10,
+        albums: Rows::of(albums),
+        recordings: Rows::of(recordings),
+        segments: Rows::of(segments),
+        replies: Rows::of(replies),
+    })
+}
+
+// Another rule is told before that of summaries, and albums before recordings.
+#[test]
+fn first_bad_row_is_told(rt: HostRuntime) -> Result<(), Fail> {
+    let alloc = rt.alloc();
+    for (album_off, off, status, want) in [
+        (0, 0, 200, None),
+        (
+            5,
+            0,
+            200,
+            Some((RowTable::Albums, 5, RowRule::OtherSummary)),
+        ),
+        (
+            0,
+            3,
+            200,
+            Some((RowTable::Recordings, 3, RowRule::OtherSummary)),
+        ),
+        (
+            0,
+            7,
+            200,
+            Some((RowTable::Recordings, 7, RowRule::OtherSummary)),
+        ),
+        (
+            2,
+            1,
+            200,
+            Some((RowTable::Albums, 2, RowRule::OtherSummary)),
+        ),
+        (
+            2,
+            1,
+            202,
+            Some((RowTable::Replies, 3, RowRule::OtherStatus)),
+        ),
+    ] {
+        let opened = open_rows(&rt, alloc, tables(alloc, album_off, off, status)?);
+        let bad = want.map(|(table, id, rule)| NotOpened::BadRow(BadRow { table, id, rule }));
+        assert_eq!(rt;
+            opened.err(),
+            bad,
+            "album {album_off}, recording {off}, status {status}"
+        );
+    }
+    Ok(())
+}
