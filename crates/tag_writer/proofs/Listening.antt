@@ -72,11 +72,14 @@ accepted_reads bytes (Wave wave) read = (
 )
 accepted_reads bytes (Flac flac) read = (
   read.1.read.sound,
-  subst (λ (kind : Option Kind). ReadsAs kind bytes (accepted read.1.read.sound)) (sym read.0) (read.1.comments, record {
-    blocks = read.1.read.blocks;
-    info = flac.info;
-    frames = read.1.read.frames;
-    reads = read.1.read.reads;
-    comments_are = read.1.right;
-  }),
+  subst (λ (kind : Option Kind). ReadsAs kind bytes (accepted read.1.read.sound)) (sym read.0) (
+    read.1.comments,
+    record {
+      blocks = read.1.read.blocks;
+      info = flac.info;
+      frames = read.1.read.frames;
+      reads = read.1.read.reads;
+      comments_are = read.1.right;
+    },
+  ),
 )
