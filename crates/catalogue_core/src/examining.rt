@@ -50,8 +50,8 @@ pub fn examine<R: Threads + Sync, G: Gate>(
     }
 }
 
-/// What so many workers measure of an accepted file. No sample is kept: each part of the sound is read
-/// from the file's bytes.
+/// What so many workers measure of an accepted file. No sample is kept: each part of the sound is
+/// read from the file's bytes.
 fn measure_file<R: Threads + Sync, G: Gate>(
     rt: &R,
     alloc: Global,
