@@ -217,6 +217,122 @@ def read_wave(b):
     return "sound", depth, n // align, [values[c::channels] for c in range(channels)]
 
 
+# ---- FLAC files (RFC 9639), of constant and verbatim subframes, at the rules of the cases
+
+SIZES = {6: 8, 7: 16}
+DEPTHS = {1: 8, 2: 12, 4: 16, 5: 20, 6: 24}
+
+
+def crc(width, polynomial, b):
+    top, value = 1 << width - 1, 0
+    for byte in b:
+        value ^= byte << width - 8
+        for _ in range(8):
+            value = (value << 1 ^ polynomial if value & top else value << 1) & (1 << width) - 1
+    return value
+
+
+def comments_fault(b):
+    """The rule that a block's content breaks and its place there, or None."""
+    if len(b) < 4 or 4 + le(b[:4]) > len(b):
+        return "C1", 0
+    at = 4 + le(b[:4])
+    if at + 4 > len(b):
+        return "C2", at
+    count, at = le(b[at:at + 4]), at + 4
+    for _ in range(count):
+        if at + 4 > len(b) or at + 4 + le(b[at:at + 4]) > len(b):
+            return "C2", at
+        at += 4 + le(b[at:at + 4])
+    return None if at == len(b) else ("C3", at)
+
+
+class Bits:
+    def __init__(self, b, at):
+        self.b, self.at = b, at * 8
+
+    def take(self, n):
+        if self.at + n > len(self.b) * 8:
+            raise EOFError
+        value = int.from_bytes(self.b, "big") >> len(self.b) * 8 - self.at - n & (1 << n) - 1
+        self.at += n
+        return value
+
+    def signed(self, n):
+        value = self.take(n)
+        return value - (1 << n) if value >> n - 1 else value
+
+
+def read_frame(b, start, channels, depth):
+    """('broken', rule, place), or (the channels' samples, the frame's end)."""
+    bits = Bits(b, start)
+    try:
+        assert bits.take(16) == 0xFFF8, "a frame of a fixed block size"
+        size_code, rate_code, channel_code, depth_code = bits.take(4), bits.take(4), bits.take(4), bits.take(3)
+        assert rate_code in (0, 10) and channel_code == channels - 1 and not bits.take(1), "another header"
+        assert DEPTHS.get(depth_code, depth) == depth and bits.take(8) < 128, "another header"
+        size = bits.take(SIZES[size_code]) + 1
+        end = bits.at // 8
+        if bits.take(8) != crc(8, 0x07, b[start:end]):
+            return "broken", "F19", start
+        lists = []
+        for _ in range(channels):
+            kind = bits.take(8) >> 1
+            assert kind in (0, 1), "another subframe"
+            lists.append([bits.signed(depth) for _ in range(size)] if kind else [bits.signed(depth)] * size)
+        assert not bits.take(-bits.at % 8), "other bits before the end"
+        end = bits.at // 8
+        if bits.take(16) != crc(16, 0x8005, b[start:end]):
+            return "broken", "F28", start
+        return lists, end + 2
+    except EOFError:
+        return "broken", "F29", start
+
+
+def read_flac(b):
+    """('broken', rule, place), or ('sound', depth, frames, lists)."""
+    at, last, info, fault = 4, False, None, None
+    while not last:
+        if at + 4 > len(b) or at + 4 + int.from_bytes(b[at + 1:at + 4], "big") > len(b):
+            return "broken", "F2", at
+        last, kind, n = b[at] >> 7, b[at] & 127, int.from_bytes(b[at + 1:at + 4], "big")
+        content = b[at + 4:at + 4 + n]
+        if info is None:
+            assert kind == 0 and n == 34, "STREAMINFO is the first"
+            info = content
+        elif kind == 4 and comments_fault(content):
+            rule, place = comments_fault(content)
+            fault = "broken", rule, at + 4 + place
+        at += 4 + n
+    said = int.from_bytes(info[10:18], "big")
+    rate, channels, depth, total = said >> 44, (said >> 41 & 7) + 1, (said >> 36 & 31) + 1, said & (1 << 36) - 1
+    assert rate == 48000 and channels <= 6 and 4 <= depth <= 24, "another STREAMINFO"
+    lists = [[] for _ in range(channels)]
+    while at < len(b):
+        frame = read_frame(b, at, channels, depth)
+        if frame[0] == "broken":
+            return frame
+        lists, at = [xs + ys for xs, ys in zip(lists, frame[0])], frame[1]
+    if total not in (0, len(lists[0])):
+        return "broken", "F30", 21
+    size = (depth + 7) // 8
+    spelled = b"".join(v.to_bytes(size, "little", signed=True) for row in zip(*lists) for v in row)
+    if any(info[18:]) and info[18:] != hashlib.md5(spelled).digest():
+        return "broken", "F31", 26
+    return fault or ("sound", depth, len(lists[0]), lists)
+
+
+# ---- Files of any kind
+
+READERS = {b"RIFF": ("wave", read_wave), b"fLaC": ("flac", read_flac)}
+
+
+def read_file(b):
+    """The kind of the file, and what it reads as."""
+    kind, read = READERS.get(b[:4], (None, lambda b: ("broken", "K1", 0)))
+    return kind, read(b)
+
+
 # ---- Files and cases (docs/CASES.md)
 
 def blocks(text):
@@ -310,9 +426,10 @@ def peak_text(p):
 
 def recording_json(r):
     s = r["summary"]
-    return ('{"channels":%d,"depth":%d,"frames":%d,"gain":%s,"id":%d,"loudness":%s,"momentary":%s,"peak":"%s","range":%s,'
+    return ('{"channels":%d,"depth":%d,"frames":%d,"gain":%s,"id":%d,"kind":"%s","loudness":%s,"momentary":%s,"peak":"%s","range":%s,'
             '"short":%s,"true_peak":%s}' % (
-                r["channels"], r["depth"], s["frames"], json_level(s["gain"]), r["id"], json_level(s["loudness"]),
+                r["channels"], r["depth"], s["frames"], json_level(s["gain"]), r["id"], r["kind"],
+                json_level(s["loudness"]),
                 json_level(s["momentary"]), peak_text(s["peak"]), json_level(s["range"]), json_level(s["short_term"]),
                 json_level(s["true_peak"])))
 
@@ -323,15 +440,15 @@ class Library:
         self.recordings, self.files, self.energies = {}, {}, {}
 
     def take_in(self, file):
-        found = read_wave(file)
+        kind, found = read_file(file)
         if found[0] == "broken":
             return reply(422, '{"error":"format","place":%d,"rule":"%s"}' % (found[2], found[1]))
         _, depth, frames, lists = found
         if self.next_recording >= END or self.next_take >= END:
             return reply(409, error("ids"))
         e, s = summary(depth, frames, lists)
-        r = dict(id=self.next_recording, take=self.next_take, channels=len(lists), depth=depth, summary=s,
-                 digest=hashlib.md5(file).hexdigest(), album=None)
+        r = dict(id=self.next_recording, kind=kind, take=self.next_take, channels=len(lists), depth=depth,
+                 summary=s, digest=hashlib.md5(file).hexdigest(), album=None)
         self.recordings[r["id"]] = r
         self.files[r["take"]], self.energies[r["take"]] = file, e
         self.next_recording += 1
@@ -348,7 +465,7 @@ class Library:
         for r in self.recordings.values():
             fields = ", ".join(f"{k}: {v if k in ('frames', 'peak') else 'None' if v is None else f'Some({v})'}"
                                for k, v in r["summary"].items())
-            yield (f'recording {r["id"]}: take {r["take"]}, Wave, {r["channels"]} channels, {r["depth"]} bits, '
+            yield (f'recording {r["id"]}: take {r["take"]}, {r["kind"].capitalize()}, {r["channels"]} channels, {r["depth"]} bits, '
                    f'album {"None" if r["album"] is None else "Some(%d)" % r["album"]}, name "", md5 {r["digest"]}, Summary {{ {fields} }}')
         for take, e in self.energies.items():
             b = b"".join(v.to_bytes(11, "big") for v in e)

@@ -1,7 +1,8 @@
 #!/bin/bash
 # Reads files that the ordinary FLAC encoder made, and compares the MD5 of their samples with that of
-# the ordinary decoder's. Then it damages some, and looks that each is refused, or read as the same
-# sound, in time. Where `flac`, `metaflac` or `python3` is not here, nothing is tried, and it says so.
+# the ordinary decoder's. It imports each into the program, and compares the reply with that to the same
+# sound as a wave. Then it damages some, and looks that each is refused, or read as the same sound, in
+# time. Where `flac`, `metaflac` or `python3` is not here, nothing is tried, and it says so.
 #
 # usage: scripts/ordinary-flacs.sh
 set -eu
@@ -13,6 +14,7 @@ work=$(mktemp -d)
 trap 'rm -rf "$work"' EXIT
 (cd crates/bench_flac && rt run -- fixed 1 >"$work/log" 2>&1) || { cat "$work/log"; exit 1; }
 reader=$PWD/crates/bench_flac/out/bench_flac
+program=$PWD/loudlib
 cd "$work"
 
 # ---- waves of 1 to 6 channels of 8, 12, 16, 20 and 24 bits, and a picture of one pixel
@@ -82,6 +84,40 @@ ordinary() {
     esac
 }
 
+# the body of the reply to the import of a file, as the first of a library
+reply() {
+    { printf 'POST /recordings HTTP/1.1\r\nContent-Length: %d\r\n\r\n' "$(stat -c %s "$1")"; cat "$1"; } |
+        "$program" session 2>>log | tail -n 1
+}
+
+# What is wanted of the import of a wave's sound as FLAC: the reply to the wave, but for the kind, and the
+# bits of a sample where the wave pads them to whole bytes. The program takes no wave of 8 bits.
+reply_wanted() {
+    local wave=$1
+    [ -f "$wave.reply" ] ||
+        reply "$wave.wav" | sed "s/\"depth\":[0-9]*/\"depth\":${wave%_*}/; s/\"wave\"/\"flac\"/" >"$wave.reply"
+    cat "$wave.reply"
+}
+
+# a wave of which `file.flac` has the sound
+check_import() {
+    local wave=$1 wanted got
+    got=$(reply file.flac)
+    case $wave in
+    8_*)
+        case $got in
+        "{\"channels\":${wave#*_},\"depth\":8,\"frames\":9000,"*'"kind":"flac"'*) wanted=$got ;;
+        *) wanted="channels ${wave#*_}, depth 8, frames 9000, kind flac" ;;
+        esac
+        ;;
+    *) wanted=$(reply_wanted "$wave") ;;
+    esac
+    if [ "$got" != "$wanted" ]; then
+        echo "$wave: wanted the reply $wanted, got $got" >&2
+        exit 1
+    fi
+}
+
 # a wave, how to encode it
 check() {
     local wave=$1 wanted got
@@ -93,6 +129,7 @@ check() {
         echo "$wave $*: wanted $wanted, got $got" >&2
         exit 1
     fi
+    check_import "$wave"
     agreed=$((agreed + 1))
 }
 
@@ -113,7 +150,7 @@ for wave in 8_1 16_2 24_2; do
     check $wave -b 65535
     check $wave -l 32 -q 15 -r 0,15 -e
 done
-echo "$agreed files: their samples are those of the ordinary decoder"
+echo "$agreed files: their samples are those of the ordinary decoder, and their levels those of the wave"
 
 # ---- damaged files: each is refused by a rule at a place, or read as the same sound, within 20 seconds
 

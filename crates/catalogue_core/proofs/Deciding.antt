@@ -4,8 +4,9 @@ use Rattle.lib_base.specs.declared.outcomes.Rule.{Rule}
 use Rattle.lib_base.specs.Faults.{Rose}
 use Rattle.lib_base.specs.declared.files.Measured.{Measured}
 use Rattle.lib_base.specs.declared.files.Summary.{Summary}
+use Rattle.file_model.specs.Files.{Reads}
 use Rattle.file_model.specs.Pcm.{Pcm}
-use Rattle.file_model.specs.Reading.{Reads, accepted}
+use Rattle.file_model.specs.Reading.{accepted}
 use Rattle.keeper_store.specs.Changes.{next_numbers}
 use Rattle.library_model.specs.Findings.{Finds, measured, measured_of, broken_by}
 use Rattle.library_model.specs.declared.messages.Command.TheVariants.{Import}

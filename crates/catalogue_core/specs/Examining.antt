@@ -2,8 +2,9 @@
 use Rattle.std.specs.Prelude.{◌≡◌, ◌≤◌, ◌^◌, ℕ, List, length}
 use Rattle.lib_base.specs.declared.files.Measured.{Measured}
 use Rattle.lib_base.specs.declared.files.Summary.{Summary}
+use Rattle.file_model.specs.Files.{Reads}
 use Rattle.file_model.specs.Pcm.{Pcm}
-use Rattle.file_model.specs.Reading.{Reads, accepted, broken}
+use Rattle.file_model.specs.Reading.{accepted, broken}
 use Rattle.gate_blocks.specs.Bounds.{AreSegments}
 use Rattle.library_model.specs.Findings.{IsSummaryOf, measured_of}
 use Rattle.sound_model.specs.Summaries.{greatest_peak}

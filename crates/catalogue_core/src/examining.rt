@@ -1,11 +1,12 @@
 //! What a file is, and what is measured of it.
 ghost use Rattle.std.specs.Prelude.{◌≡◌, ◌≤◌, IfOk};
+ghost use Rattle.file_model.specs.Files.{Reads};
 ghost use Rattle.file_model.specs.Pcm.{Pcm};
-ghost use Rattle.file_model.specs.Wave.{IsWave};
+ghost use Rattle.file_model.specs.Reading.{accepted as reads_as};
 ghost use Rattle.measure_pool.specs.declared.plans.TheConstants.{MOST_WORKERS};
 ghost use Rattle.sound_model.specs.Blocks.{blocks_of, windows_of};
 ghost use Rattle.sound_model.specs.Summaries.{Summarises};
-ghost use Rattle.wave_chunks.specs.Answers.{IsReadOf};
+ghost use Rattle.tag_writer.specs.Answers.{IsAcceptedOf};
 ghost use Rattle.catalogue_core.specs.Examining.{IsFound, IsSummable};
 ghost use Rattle.library_model.specs.Findings.{measured_of};
 
@@ -15,7 +16,7 @@ use lib_base::{Broken, Measured, Memory, Refused, Summary};
 use measure_pool::{Gate, measure};
 use std::alloc::Global;
 use std::thread::Threads;
-use wave_chunks::{Wave, WaveSound};
+use tag_writer::{Accepted, AnySound, accept};
 
 /// What a file is found to be.
 #[derive(Debug, Drop)]
@@ -38,9 +39,9 @@ pub fn examine<R: Threads + Sync, G: Gate>(
     requires most { workers ≤ MOST_WORKERS }
     ensures { IfOk result (λ found. IsFound file.now found) }
 {
-    match wave_chunks::read(alloc, file) {
-        Ok(wave) => {
-            let measured = measure_wave(rt, alloc, file, &wave, workers, gate)?;
+    match accept(alloc, file) {
+        Ok(accepted) => {
+            let measured = measure_file(rt, alloc, file, &accepted, workers, gate)?;
             let summary = summary_of(alloc, &measured)?;
             Ok(Examined::Accepted(measured, summary))
         }
@@ -49,21 +50,23 @@ pub fn examine<R: Threads + Sync, G: Gate>(
     }
 }
 
-/// What so many workers measure of a wave file.
-fn measure_wave<R: Threads + Sync, G: Gate>(
+/// What so many workers measure of an accepted file. No sample is kept: each part of the sound is
+/// read from the file's bytes.
+fn measure_file<R: Threads + Sync, G: Gate>(
     rt: &R,
     alloc: Global,
     file: &[u8],
-    wave: &Wave,
+    accepted: &Accepted,
     workers: u32,
     gate: &G,
 ) -> Result<Measured, Memory>
-    requires read { IsReadOf file.now wave.now }
+    requires read { IsAcceptedOf file.now accepted.now }
     requires some { 1 ≤ workers }
     requires most { workers ≤ MOST_WORKERS }
-    ensures { IfOk result (λ measured. (sound : Pcm) → IsWave file.now sound → measured ≡ measured_of sound) }
+    ensures { IfOk result (λ measured. (sound : Pcm) → Reads file.now (reads_as sound)
+        → measured ≡ measured_of sound) }
 {
-    measure(rt, alloc, &WaveSound::over(file, wave), workers, gate)
+    measure(rt, alloc, &AnySound::over(file, accepted), workers, gate)
 }
 
 /// The levels of what is measured of a sound.

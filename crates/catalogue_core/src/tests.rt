@@ -126,12 +126,27 @@ const CUT: &[u8] =
 
 /// What is replied about the first recording of the four samples, and about the second.
 const FIRST: &str =
-    r#"{"channels":1,"depth":16,"frames":4,"gain":null,"id":1,"loudness":null,"momentary":null,"peak":"0.537233","range":null,"short":null,"true_peak":-540}"#;
+    r#"{"channels":1,"depth":16,"frames":4,"gain":null,"id":1,"kind":"wave","loudness":null,"momentary":null,"peak":"0.537233","range":null,"short":null,"true_peak":-540}"#;
 
 const SECOND: &str =
-    r#"{"channels":1,"depth":16,"frames":4,"gain":null,"id":2,"loudness":null,"momentary":null,"peak":"0.537233","range":null,"short":null,"true_peak":-540}"#;
+    r#"{"channels":1,"depth":16,"frames":4,"gain":null,"id":2,"kind":"wave","loudness":null,"momentary":null,"peak":"0.537233","range":null,"short":null,"true_peak":-540}"#;
 
-const NO_CHUNKS: &str = r#"{"error":"format","place":0,"rule":"V1"}"#;
+/// A FLAC file of one channel of 16 bits, and one frame of sixteen samples of 1.
+const FLAC: &[u8] =
+    b"fLaC\x80\0\0\x22\0\x10\0\x10\0\0\0\0\0\0\x0b\xb8\0\xf0\0\0\0\x10\0\0\0\0\0\0\0\0\0\0\0\0\0\0\0\0\xff\xf8j\x08\0\x0f\x0a\0\0\x01\xbe\x85";
+
+/// The same sound as a wave.
+const SIXTEEN: &[u8] =
+    b"RIFF\x44\0\0\0WAVEfmt \x10\0\0\0\x01\0\x01\0\x80\xbb\0\0\0\x77\x01\0\x02\0\x10\0data\x20\0\0\0\x01\0\x01\0\x01\0\x01\0\x01\0\x01\0\x01\0\x01\0\x01\0\x01\0\x01\0\x01\0\x01\0\x01\0\x01\0\x01\0";
+
+/// What is replied about that sound, third as FLAC and fourth as a wave.
+const THIRD: &str =
+    r#"{"channels":1,"depth":16,"frames":16,"gain":null,"id":3,"kind":"flac","loudness":null,"momentary":null,"peak":"0.000035","range":null,"short":null,"true_peak":-8936}"#;
+
+const FOURTH: &str =
+    r#"{"channels":1,"depth":16,"frames":16,"gain":null,"id":4,"kind":"wave","loudness":null,"momentary":null,"peak":"0.000035","range":null,"short":null,"true_peak":-8936}"#;
+
+const NO_KIND: &str = r#"{"error":"format","place":0,"rule":"K1"}"#;
 
 /// What is asked.
 #[derive(Clone, Copy, Debug)]
@@ -142,11 +157,15 @@ enum Asked {
 
 /// What is asked in turn, with the status and the body of its reply, where the vault's first call
 /// and the keeper's second fail. A function of its own, so that the test's proof does not carry it.
-fn cases() -> [(Asked, u16, &'static str); 12] {
+fn cases() -> [(Asked, u16, &'static str); 15] {
     [
-        (Asked::Import(b""), 422, NO_CHUNKS),
-        (Asked::Import(b"PK\x03\x04"), 422, NO_CHUNKS),
-        (Asked::Import(b"fLaC\0\0\0\x22"), 422, NO_CHUNKS),
+        (Asked::Import(b""), 422, NO_KIND),
+        (Asked::Import(b"PK\x03\x04"), 422, NO_KIND),
+        (
+            Asked::Import(b"fLaC\0\0\0\x22"),
+            422,
+            r#"{"error":"format","place":4,"rule":"F2"}"#,
+        ),
         (
             Asked::Import(CUT),
             422,
@@ -161,9 +180,12 @@ fn cases() -> [(Asked, u16, &'static str); 12] {
         (Asked::Import(FOUR), 504, r#"{"error":"keeper"}"#),
         (Asked::Import(FOUR), 201, FIRST),
         (Asked::Import(FOUR), 201, SECOND),
+        (Asked::Import(FLAC), 201, THIRD),
+        (Asked::Import(SIXTEEN), 201, FOURTH),
         (Asked::Recording(1), 200, FIRST),
         (Asked::Recording(2), 200, SECOND),
-        (Asked::Recording(3), 404, r#"{"error":"no-recording"}"#),
+        (Asked::Recording(3), 200, THIRD),
+        (Asked::Recording(5), 404, r#"{"error":"no-recording"}"#),
     ]
 }
 

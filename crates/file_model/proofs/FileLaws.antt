@@ -7,12 +7,12 @@ use Rattle.lib_base.specs.declared.outcomes.Rule.{Rule}
 use Rattle.file_model.specs.declared.comment_rules.CommentBreak.{CommentBreak}
 use Rattle.file_model.specs.declared.flac_fields.TheConstants.{BLOCKS_AT}
 use Rattle.file_model.specs.Comments.{Comments, comment_rule_of}
-use Rattle.file_model.specs.Files.{comments_in, IsFlacWith, BreaksInComments, ReadsWithComments, ReadsAs, ReadsAsFile}
+use Rattle.file_model.specs.Files.{comments_in, IsFlacWith, BreaksInComments, ReadsWithComments, ReadsAs, Reads}
 use Rattle.file_model.specs.FlacFile.{IsFlac}
 use Rattle.file_model.specs.Pcm.{Pcm}
 use Rattle.file_model.specs.Reading.{Reading, accepted, broken}
 use Rattle.file_model.proofs.FlacLaws.{one_blocks, IsFlac_unique, IsFlac_breaks_nothing, ReadsAsFlac_unique}
-use Rattle.file_model.proofs.Readings.{Reads_unique}
+use Rattle.file_model.proofs.Readings.{ReadsAsWave_unique}
 
 is_flac : (bytes : List ℕ) (sound : Pcm) (comments : Result (Option Comments) CommentBreak) → IsFlacWith bytes sound comments → IsFlac bytes sound
 is_flac bytes sound comments h = (h.blocks, h.info, h.frames, h.reads)
@@ -58,10 +58,10 @@ ReadsWithComments_unique bytes (broken rule place) (broken other there) (inr h) 
 ReadsWithComments_unique bytes (broken rule place) (broken other there) (inr h) (inr k) = one_break bytes rule other place there h k
 
 of_kind : (kind : Option Kind) (bytes : List ℕ) (one other : Reading) → ReadsAs kind bytes one → ReadsAs kind bytes other → one ≡ other
-of_kind (Some Wave) bytes one other h k = Reads_unique bytes one other h k
+of_kind (Some Wave) bytes one other h k = ReadsAsWave_unique bytes one other h k
 of_kind (Some Flac) bytes one other h k = ReadsWithComments_unique bytes one other h k
 of_kind None bytes one other h k = h ∙ sym k
 
 -- bytes have at most one reading
-pub ReadsAsFile_unique : (bytes : List ℕ) (one other : Reading) → ReadsAsFile bytes one → ReadsAsFile bytes other → one ≡ other
-ReadsAsFile_unique bytes one other h k = of_kind (kind_named bytes) bytes one other h k
+pub Reads_unique : (bytes : List ℕ) (one other : Reading) → Reads bytes one → Reads bytes other → one ≡ other
+Reads_unique bytes one other h k = of_kind (kind_named bytes) bytes one other h k

@@ -10,7 +10,7 @@ use Rattle.file_model.specs.declared.wave_rules.WaveRule.{WaveRule}
 use Rattle.file_model.specs.declared.wave_rules.WaveRule.TheVariants.{NoRiff, OtherForm, OtherSize, CutChunk, RepeatedChunk, NoFormat, ShortFormat, OtherFormat, OtherChannels, OtherRate, OtherDepth, OtherAlign, NoData, PartFrame, ShortBext}
 use Rattle.file_model.specs.Chunks.{Chunk, Placed, named, first_repeat, number_at}
 use Rattle.file_model.specs.Format.{IsShortFormat, IsOtherFormat, HasOtherChannels, HasOtherRate, HasOtherDepth, HasOtherAlign}
-use Rattle.file_model.specs.Reading.{Reading, accepted, broken, Reads, IsBroken}
+use Rattle.file_model.specs.Reading.{Reading, accepted, broken, ReadsAsWave, IsBroken}
 use Rattle.file_model.specs.Rules.{rule_of, number_of, IsCutAt, Lacks, OfChunks, FormatIs, HasPartFrame, HasShortBext, Breaks, BreaksNoneBelow}
 use Rattle.file_model.proofs.Spellings.{Begins_unique, chunks_unique}
 use Rattle.file_model.proofs.Waves.{IsWave_unique, one_placed, breaks_nothing}
@@ -125,11 +125,11 @@ IsBroken_unique bytes one other p q first again =
       ]
     ]
 
-pub Reads_unique : (bytes : List ℕ) (r q : Reading) → Reads bytes r → Reads bytes q → r ≡ q
-Reads_unique bytes (accepted xs) (accepted ys) h k = ap accepted (IsWave_unique bytes xs ys h k)
-Reads_unique bytes (accepted xs) (broken rule place) h k = absurd (k.2.no_wave xs h)
-Reads_unique bytes (broken rule place) (accepted ys) h k = absurd (h.2.no_wave ys k)
-Reads_unique bytes (broken rule place) (broken rule' place') h k =
+pub ReadsAsWave_unique : (bytes : List ℕ) (r q : Reading) → ReadsAsWave bytes r → ReadsAsWave bytes q → r ≡ q
+ReadsAsWave_unique bytes (accepted xs) (accepted ys) h k = ap accepted (IsWave_unique bytes xs ys h k)
+ReadsAsWave_unique bytes (accepted xs) (broken rule place) h k = absurd (k.2.no_wave xs h)
+ReadsAsWave_unique bytes (broken rule place) (accepted ys) h k = absurd (h.2.no_wave ys k)
+ReadsAsWave_unique bytes (broken rule place) (broken rule' place') h k =
     let same = IsBroken_unique bytes h.0 k.0 place place' h.2 k.2 in
     let same_rule : rule ≡ rule' = h.1 ∙ ap rule_of same.0 ∙ sym k.1 in
     ap (λ (r : Rule). broken r place) same_rule ∙ ap (broken rule') same.1

@@ -4,7 +4,7 @@ use Rattle.std.specs.Prelude.{codes}
 use Rattle.lib_base.specs.declared.outcomes.Rule.TheVariants.{K}
 use Rattle.file_model.specs.declared.comment_rules.CommentRule.TheVariants.{CutVendor, CutComment, BytesLeft}
 use Rattle.file_model.specs.Comments.{count_at, text_at, comments_at}
-use Rattle.file_model.specs.Files.{comments_in, ReadsAsFile}
+use Rattle.file_model.specs.Files.{comments_in, Reads}
 use Rattle.file_model.specs.Outcomes.{times_at}
 use Rattle.file_model.specs.Reading.{broken}
 
@@ -66,5 +66,5 @@ row_none_in_file : comments_in 4 (record { kind = 0; content = [] } ∷ record {
 row_none_in_file = refl
 
 -- other bytes than `RIFF` or `fLaC`
-row_other_kind : ReadsAsFile (codes "PK") (broken (K 1) 0)
+row_other_kind : Reads (codes "PK") (broken (K 1) 0)
 row_other_kind = refl

@@ -62,6 +62,6 @@ ReadsAs (Some Wave) bytes reading = ReadsAsWave bytes reading
 ReadsAs (Some Flac) bytes reading = ReadsWithComments bytes reading
 ReadsAs None bytes reading = reading ≡ broken (kind_rule_of OtherKind) 0
 
--- the bytes read as a file of the kind that they name
-abbrev pub ReadsAsFile : List ℕ → Reading → Type 0
-ReadsAsFile bytes reading = ReadsAs (kind_named bytes) bytes reading
+-- what the library reads: a file of the kind that the bytes name
+abbrev pub Reads : List ℕ → Reading → Type 0
+Reads bytes reading = ReadsAs (kind_named bytes) bytes reading

@@ -34,7 +34,3 @@ ReadsAsWave bytes (broken rule place) = (lowest : WaveRule) × (rule ≡ rule_of
 abbrev pub ReadsAsFlac : List ℕ → Reading → Type 0
 ReadsAsFlac bytes (accepted sound) = IsFlac bytes sound
 ReadsAsFlac bytes (broken rule place) = (first : FlacRule) × (rule ≡ flac_rule_of first) × FlacBreaks bytes first place
-
--- what the library reads: waves, so far
-abbrev pub Reads : List ℕ → Reading → Type 0
-Reads bytes reading = ReadsAsWave bytes reading

@@ -203,3 +203,10 @@ IsFlacOf_sounds bytes blocks info frames sound is =
 
 pub IsFlac_sounds : (bytes : List ℕ) (sound : Pcm) → IsFlac bytes sound → IsSound sound.lists sound.depth sound.frames
 IsFlac_sounds bytes sound (blocks, info, frames, is) = IsFlacOf_sounds bytes blocks info frames sound is
+
+-- and has no more frames than a file may have samples
+pub IsFlac_few : (bytes : List ℕ) (sound : Pcm) → IsFlac bytes sound → sound.frames ≤ MOST_SAMPLES
+IsFlac_few bytes sound (blocks, info, frames, is) =
+    let some = (info_fits (first_content blocks) info is.says).some in
+    let few = frames_few info frames 0 is.frame_bytes [] some (omega arith) is.whole in
+    subst (λ (s : Pcm). s.frames ≤ MOST_SAMPLES) (sound_is info frames sound is.sounds) (omega (arith, few))

@@ -2,13 +2,13 @@
 ghost use Rattle.std.specs.Prelude.{◌≡◌, IfOk, string_bytes};
 ghost use Rattle.serde_json.specs.View.{view};
 ghost use Rattle.serde_json.specs.Written.{compact_text};
-ghost use Rattle.library_model.specs.Bodies.{recording_data, row_reply};
+ghost use Rattle.library_model.specs.Bodies.{kind_text, recording_data, row_reply};
 ghost use Rattle.library_model.specs.Replies as model;
 ghost use Rattle.sound_model.specs.Texts.{peak_text};
 
 use db_table::peak_text;
 use keeper_store::RecordingRow;
-use lib_base::{Broken, Bytes, Memory};
+use lib_base::{Broken, Bytes, Kind, Memory};
 use library_model::{BodyKind, Refusal, Reply};
 use serde_json::{Value, json};
 use std::alloc::{AllocError, Global};
@@ -44,14 +44,20 @@ fn recording_text(alloc: Global, row: &RecordingRow) -> Result<String, Memory>
     ensures { IfOk result (λ text. string_bytes text ≡ compact_text (recording_data row.now)) }
 {
     let peak = peak_text(alloc, row.summary.peak)?;
-    let value = recording_value(alloc, row, peak.as_str())?;
+    let value = recording_value(alloc, row, kind_text(row.kind), peak.as_str())?;
     let text = value.to_string(alloc)?;
     Ok(text)
 }
 
-/// The recording of a row, of which that is the peak's text.
-fn recording_value(alloc: Global, row: &RecordingRow, peak: &str) -> Result<Value, AllocError>
-    requires { peak.now ≡ peak_text row.now.summary.peak }
+/// The recording of a row, of which those are the texts of the kind and of the peak.
+fn recording_value(
+    alloc: Global,
+    row: &RecordingRow,
+    kind: &str,
+    peak: &str,
+) -> Result<Value, AllocError>
+    requires kind { kind.now ≡ kind_text row.now.kind }
+    requires peak { peak.now ≡ peak_text row.now.summary.peak }
     ensures { IfOk result (λ value. view value ≡ recording_data row.now) }
 {
     let summary = row.summary;
@@ -61,6 +67,7 @@ fn recording_value(alloc: Global, row: &RecordingRow, peak: &str) -> Result<Valu
         "frames": summary.frames,
         "gain": summary.gain,
         "id": row.id,
+        "kind": kind,
         "loudness": summary.loudness,
         "momentary": summary.momentary,
         "peak": peak,
@@ -68,6 +75,16 @@ fn recording_value(alloc: Global, row: &RecordingRow, peak: &str) -> Result<Valu
         "short": summary.short_term,
         "true_peak": summary.true_peak
     })
+}
+
+/// The text that a kind of file is answered as.
+fn kind_text(kind: Kind) -> &'static str
+    ensures { result.now ≡ kind_text kind }
+{
+    match kind {
+        Kind::Wave => "wave",
+        Kind::Flac => "flac",
+    }
 }
 
 fn json_reply(status: u16, text: String) -> Reply

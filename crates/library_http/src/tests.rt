@@ -146,7 +146,7 @@ const IMPORT: &[u8] =
     b"POST /recordings HTTP/1.1\r\nContent-Length: 52\r\n\r\nRIFF\x2c\0\0\0WAVEfmt \x10\0\0\0\x01\0\x01\0\x80\xbb\0\0\0\x77\x01\0\x02\0\x10\0data\x08\0\0\0\0\0\0\x40\0\xc0\x01\0";
 
 const CREATED: &str =
-    "HTTP/1.1 201 Created\r\nContent-Type: application/json\r\nContent-Length: 149\r\n\r\n{\"channels\":1,\"depth\":16,\"frames\":4,\"gain\":null,\"id\":1,\"loudness\":null,\"momentary\":null,\"peak\":\"0.537233\",\"range\":null,\"short\":null,\"true_peak\":-540}";
+    "HTTP/1.1 201 Created\r\nContent-Type: application/json\r\nContent-Length: 163\r\n\r\n{\"channels\":1,\"depth\":16,\"frames\":4,\"gain\":null,\"id\":1,\"kind\":\"wave\",\"loudness\":null,\"momentary\":null,\"peak\":\"0.537233\",\"range\":null,\"short\":null,\"true_peak\":-540}";
 
 const CUT: &str =
     "HTTP/1.1 400 Bad Request\r\nContent-Type: application/json\r\nContent-Length: 17\r\nConnection: close\r\n\r\n{\"error\":\"frame\"}";

@@ -1,3 +1,4 @@
+pub mod AcceptedFiles
 pub mod WorkedNames
 pub mod InOrderLemmas
 pub mod Imports

@@ -3,7 +3,7 @@ use Rattle.std.proofs.Common.{◌≡◌, ℕ, List, ap, ◌∙◌, subst}
 use Rattle.lib_base.specs.declared.files.Summary.{Summary}
 use Rattle.file_model.specs.Pcm.{Pcm}
 use Rattle.file_model.specs.Reading.{accepted, broken}
-use Rattle.file_model.proofs.Readings.{Reads_unique}
+use Rattle.file_model.proofs.FileLaws.{Reads_unique}
 use Rattle.sound_model.specs.Blocks.{blocks_of, windows_of}
 use Rattle.sound_model.specs.Peaks.{peak_of}
 use Rattle.sound_model.proofs.SummaryLaws.{Summarises-unique}

@@ -108,14 +108,14 @@ refusal-keeper = refl
 
 -- The first import is accepted as recording 1.
 pub import_verdict-accepts : import_verdict empty_state (four_frames 1) (measured row_sound row_summary)
-    ≡ accepts (json 201 (codes "{\"channels\":1,\"depth\":16,\"frames\":4,\"gain\":null,\"id\":1,\"loudness\":null,\"momentary\":null,\"peak\":\"0.537233\",\"range\":null,\"short\":null,\"true_peak\":-540}"))
+    ≡ accepts (json 201 (codes "{\"channels\":1,\"depth\":16,\"frames\":4,\"gain\":null,\"id\":1,\"kind\":\"wave\",\"loudness\":null,\"momentary\":null,\"peak\":\"0.537233\",\"range\":null,\"short\":null,\"true_peak\":-540}"))
     (record empty_state { next_recording = 2; next_take = 2; recordings = row_recording ∷ [] })
 unfolding serde_json_on_literals digits millionths
 import_verdict-accepts = refl
 
 -- From the state that it leads to, a question after recording 1 is answered with the same body.
 pub question_reply-imported : question_reply (imported empty_state (four_frames 1) row_sound row_summary) (about.Recording 1)
-    ≡ json 200 (codes "{\"channels\":1,\"depth\":16,\"frames\":4,\"gain\":null,\"id\":1,\"loudness\":null,\"momentary\":null,\"peak\":\"0.537233\",\"range\":null,\"short\":null,\"true_peak\":-540}")
+    ≡ json 200 (codes "{\"channels\":1,\"depth\":16,\"frames\":4,\"gain\":null,\"id\":1,\"kind\":\"wave\",\"loudness\":null,\"momentary\":null,\"peak\":\"0.537233\",\"range\":null,\"short\":null,\"true_peak\":-540}")
 unfolding serde_json_on_literals digits millionths
 question_reply-imported = refl
 
@@ -152,7 +152,7 @@ import_verdict-full = refl
 
 -- The state before it has one number left.
 pub import_verdict-last : import_verdict (record row_full { next_recording = 2147483646 }) (four_frames 1) (measured row_sound row_summary)
-    ≡ accepts (json 201 (codes "{\"channels\":1,\"depth\":16,\"frames\":4,\"gain\":null,\"id\":2147483646,\"loudness\":null,\"momentary\":null,\"peak\":\"0.537233\",\"range\":null,\"short\":null,\"true_peak\":-540}"))
+    ≡ accepts (json 201 (codes "{\"channels\":1,\"depth\":16,\"frames\":4,\"gain\":null,\"id\":2147483646,\"kind\":\"wave\",\"loudness\":null,\"momentary\":null,\"peak\":\"0.537233\",\"range\":null,\"short\":null,\"true_peak\":-540}"))
     (record empty_state {
       next_recording = 2147483647;
       next_take = 2;

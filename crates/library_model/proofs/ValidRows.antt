@@ -1,11 +1,9 @@
 -- The tables of a valid state break no rule.
-use Rattle.std.proofs.Common.{◌≡◌, ◌≢◌, ◌==◌, inl, inr, ℕ, Bool, true, false, cond, Some, None, List, [], ◌∷◌, length, map, refl, sym, ap, ◌∙◌, subst, arith}
+use Rattle.std.proofs.Common.{◌≡◌, ◌≢◌, ◌==◌, ℕ, Bool, true, false, cond, Some, None, List, [], ◌∷◌, length, map, refl, sym, ap, ◌∙◌, subst, arith}
 use Rattle.std.specs.List.{AllByRecursion}
 use Rattle.std.proofs.lemmas.Bool.Decides.{nat_tests}
 use Rattle.lib_base.specs.Sounds.{IsSound}
-use Rattle.lib_base.specs.declared.files.Kind.TheVariants.{Wave}
 use Rattle.lib_base.specs.declared.files.Measured.{Measured}
-use Rattle.file_model.proofs.Samples.{IsDepth}
 use Rattle.keeper_store.specs.EnergyBytes.{row_bytes}
 use Rattle.keeper_store.specs.declared.contents.Tables.{Tables}
 use Rattle.keeper_store.specs.declared.row_types.RecordingRow.{RecordingRow}
@@ -15,42 +13,37 @@ use Rattle.sound_model.specs.Summaries.{IsWithinBounds}
 use Rattle.sound_model.proofs.MeasuredBounds.{measured_within}
 use Rattle.library_model.specs.Findings.{energies_of, kind_of, measured_of}
 use Rattle.library_model.specs.InOrder.{Differ}
-use Rattle.library_model.specs.RowRules.{IsFirstBad, IsSummedAlbum, IsSummedRecording, are_energies_of, energies_of_take, energies_rule, frames_of_take, is_depth, is_in_album, is_sound, measured_in, members_in}
+use Rattle.library_model.specs.RowRules.{IsFirstBad, IsSummedAlbum, IsSummedRecording, are_energies_of, energies_of_take, energies_rule, frames_of_take, is_in_album, is_sound, measured_in, members_in}
 use Rattle.library_model.specs.Stands.{IsFound, IsSummed, IsValid, album_row, measured_all, members, recording_row, segment_row, segment_rows, tables_of}
 use Rattle.library_model.specs.State.{Album, Recording, State}
+use Rattle.library_model.proofs.AcceptedFiles.{HasSound, HasSound-accepted}
 use Rattle.library_model.proofs.Imports.{AllByRecursion-both, AllByRecursion-weaker}
 use Rattle.library_model.proofs.InOrderLemmas.{AllByRecursion-map, AllByRecursion-unmap}
 use Rattle.library_model.proofs.NoBadRow.{RecordingPasses, SegmentsPass, none_of_rows}
 use Rattle.library_model.proofs.RowBounds.{energies_pass, sound_passes}
 use Rattle.library_model.proofs.SegmentRows.{AllByRecursion-rows_with, energies_of_take-found, has_segments-found, of_take, of_take-own}
-use Rattle.library_model.proofs.WaveFiles.{frames_within, kind_of-accepted}
 
 -- ---- one recording
+
+-- the sound that the file of a recording has
+sound_of : (r : Recording) → IsFound r → HasSound (kind_of r.file) r.file r.sound
+sound_of r found = HasSound-accepted r.file r.sound found.1.0
 
 -- what is measured of a recording's sound is within the bounds
 within_bounds : (r : Recording) → IsFound r → IsWithinBounds (measured_of r.sound)
 within_bounds r found =
-    measured_within r.sound.depth r.sound.frames r.sound.lists found.1.0.1.is_sound (frames_within r.file r.sound found.1.0 found.0)
-
--- waves have 16 or 24 bits
-wave_depth : (depth : ℕ) → IsDepth depth → is_depth Wave depth ≡ true
-wave_depth depth known = elim known [
-  | inl sixteen ↦ rw sixteen refl
-  | inr more ↦ rw more refl
-]
-
-depth_of_kind : (r : Recording) → IsFound r → is_depth (kind_of r.file) r.sound.depth ≡ true
-depth_of_kind r found =
-    rw (kind_of-accepted r.file r.sound found.1.0) (wave_depth r.sound.depth found.1.0.1.is_format.depth_known)
+    let has = sound_of r found in
+    measured_within r.sound.depth r.sound.frames r.sound.lists has.is_sound (has.frames found.0)
 
 -- the sound of a recording's row passes
 row_passes : (r : Recording) → IsFound r → is_sound (recording_row r) ≡ true
 row_passes r found =
-    let sound : IsSound r.sound.lists r.sound.depth r.sound.frames = found.1.0.1.is_sound in
+    let has = sound_of r found in
+    let sound : IsSound r.sound.lists r.sound.depth r.sound.frames = has.is_sound in
     let bounds : IsWithinBounds (measured_of r.sound) = within_bounds r found in
     let frames : r.summary.frames ≡ r.sound.frames = found.1.1.frames_kept in
     let peak : r.summary.peak ≡ (measured_of r.sound).peak = found.1.1.peak_kept in
-    sound_passes (recording_row r) sound.has_channel sound.few_channels (depth_of_kind r found)
+    sound_passes (recording_row r) sound.has_channel sound.few_channels has.depth
     (omega (arith, frames, bounds.frames)) (omega (arith, peak, bounds.peak))
 
 -- ---- the segments of recordings

@@ -1,24 +1,13 @@
--- What a wave file tells of itself: its kind, and a bound of its frames.
+-- A bound of the frames of a wave.
 use Rattle.std.proofs.Common.{◌≡◌, ◌≤◌, ◌*◌, ◌+◌, ◌/◌, inl, inr, ℕ, Bool, true, false, cond, suc, zero, List, [], ◌∷◌, ◌++◌, length, length-append, sym, ap, ◌∙◌, subst, arith}
 use Rattle.std.specs.Prelude.{codes, nat_eq}
 use Rattle.std.specs.Cmp.Lexicographic.{pointwise}
-use Rattle.lib_base.specs.declared.files.Kind.TheVariants.{Wave}
 use Rattle.file_model.specs.Chunks.{Begins, Chunk, Placed, named_from, next_head, spelling}
 use Rattle.file_model.specs.Pcm.{Pcm, interleaved}
-use Rattle.file_model.specs.Reading.{Reads, accepted}
 use Rattle.file_model.specs.Wave.{IsWaveOf}
 use Rattle.file_model.proofs.Interleaving.{length-interleaved}
 use Rattle.file_model.proofs.Samples.{IsDepth, length-bytes}
 use Rattle.file_model.proofs.Spellings.{length-spelling}
-use Rattle.sound_model.specs.Summaries.{most_frames}
-use Rattle.library_model.specs.Findings.{kind_of}
-use Rattle.library_model.specs.Stands.{IsWithinLimit}
-
--- A file that is accepted is a wave, as of today.
-pub kind_of-accepted : (file : List ℕ) (sound : Pcm) → Reads file (accepted sound) → kind_of file ≡ Wave
-kind_of-accepted file sound reads = ap kind_of reads.1.written
-
--- ---- frames
 
 -- the content of a chunk is no longer than the bytes of all chunks
 content_within : (name : List ℕ) (chunks : List Chunk) (bytes rest : List ℕ) (head : ℕ) (found : Placed) (more : List Placed)
@@ -57,7 +46,7 @@ wide_enough depth (inl sixteen) = subst (λ (d : ℕ). 2 ≤ d / 8) (sym sixteen
 wide_enough depth (inr more) = subst (λ (d : ℕ). 2 ≤ d / 8) (sym more) (omega arith)
 
 -- a wave has no more frames than half its bytes
-frames_of_wave : (file : List ℕ) (chunks : List Chunk) (sound : Pcm) → IsWaveOf file chunks sound → 2 * sound.frames ≤ length file
+pub frames_of_wave : (file : List ℕ) (chunks : List Chunk) (sound : Pcm) → IsWaveOf file chunks sound → 2 * sound.frames ≤ length file
 frames_of_wave file chunks sound wave =
     let known : IsDepth sound.depth = wave.is_format.depth_known in
     let content : length wave.data_chunk.content ≡ sound.depth / 8 * (length sound.lists * sound.frames) =
@@ -70,9 +59,3 @@ frames_of_wave file chunks sound wave =
     content_within (codes "data") chunks wave.body [] _ wave.data_chunk [] wave.spelled wave.one_data in
     let written = ap length wave.written in
     omega (arith, taken, inside, written)
-
--- A file within the limit has no more frames than a recording may have.
-pub frames_within : (file : List ℕ) (sound : Pcm) → Reads file (accepted sound) → IsWithinLimit file → sound.frames ≤ most_frames
-frames_within file sound reads within =
-    let half : 2 * sound.frames ≤ length file = frames_of_wave file reads.0 sound reads.1 in
-    omega (arith, half, within)

@@ -1,8 +1,10 @@
 -- Bodies of replies in JSON (RFC 8259): one line, members in ascending order of their keys.
-use Rattle.std.specs.Prelude.{ℕ, ℤ, codes, Option, None, Some}
+use Rattle.std.specs.Prelude.{ℕ, ℤ, List, codes, Option, None, Some}
 use Rattle.serde_json.specs.Data.{Data, null, number, unsigned, string, object, member, no_members}
 use Rattle.serde_json.specs.Find.{of_integer}
 use Rattle.serde_json.specs.Written.{compact_text}
+use Rattle.lib_base.specs.declared.files.Kind.{Kind}
+use Rattle.lib_base.specs.declared.files.Kind.TheVariants.{Wave, Flac}
 use Rattle.sound_model.specs.Texts.{peak_text}
 use Rattle.keeper_store.specs.declared.row_types.RecordingRow.{RecordingRow}
 use Rattle.library_model.specs.declared.messages.Reply.{Reply}
@@ -13,7 +15,13 @@ abbrev pub level_data : Option ℤ → Data
 level_data None = null
 level_data (Some level) = number (of_integer level)
 
--- a recording as it is answered: its channels, the bits of a sample, its frames, and its levels; the peak is a text, 1 being full scale
+-- the text that a kind of file is answered as
+abbrev pub kind_text : Kind → List ℕ
+kind_text Wave = codes "wave"
+kind_text Flac = codes "flac"
+
+-- a recording as it is answered: its channels, the bits of a sample, its frames, the kind of its file, and its levels; the peak is a
+-- text, 1 being full scale
 abbrev pub recording_data : RecordingRow → Data
 recording_data r =
     object (member (codes "channels") (number (unsigned r.channels))
@@ -21,12 +29,13 @@ recording_data r =
     (member (codes "frames") (number (unsigned r.summary.frames))
     (member (codes "gain") (level_data r.summary.gain)
     (member (codes "id") (number (unsigned r.id))
+    (member (codes "kind") (string (kind_text r.kind))
     (member (codes "loudness") (level_data r.summary.loudness)
     (member (codes "momentary") (level_data r.summary.momentary)
     (member (codes "peak") (string (peak_text r.summary.peak))
     (member (codes "range") (level_data r.summary.range)
     (member (codes "short") (level_data r.summary.short_term)
-    (member (codes "true_peak") (level_data r.summary.true_peak) no_members)))))))))))
+    (member (codes "true_peak") (level_data r.summary.true_peak) no_members))))))))))))
 
 -- what is replied about the recording of a row
 abbrev pub row_reply : ℕ → RecordingRow → Reply

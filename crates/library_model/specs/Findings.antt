@@ -6,15 +6,17 @@ use Rattle.lib_base.specs.declared.files.Kind.{Kind}
 use Rattle.lib_base.specs.declared.files.Kind.TheVariants.{Wave}
 use Rattle.lib_base.specs.declared.files.Measured.{Measured}
 use Rattle.lib_base.specs.declared.files.Summary.{Summary}
+use Rattle.file_model.specs.Files.{Reads}
 use Rattle.file_model.specs.Pcm.{Pcm}
-use Rattle.file_model.specs.Reading.{Reads, accepted, broken}
+use Rattle.file_model.specs.Reading.{accepted, broken}
 use Rattle.sound_model.specs.Blocks.{blocks_of, windows_of}
 use Rattle.sound_model.specs.Peaks.{peak_of}
 use Rattle.sound_model.specs.Segments.{energies}
 use Rattle.sound_model.specs.Summaries.{Summarises}
 use Rattle.sound_model.specs.Summaries as summaries
 
--- the kind of a file, as its first four bytes name it: FLAC where they are `fLaC` (RFC 9639 section 6), and else a wave
+-- The kind of an accepted file, as its first four bytes name it: a wave where they are `RIFF`, FLAC where they are `fLaC` (RFC 9639
+-- section 6). Bytes that name no kind are never accepted.
 abbrev pub kind_of : List ℕ → Kind
 kind_of file = unwrap_or (kind_named file) Wave
 

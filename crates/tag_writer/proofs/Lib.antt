@@ -1,3 +1,3 @@
 mod Contents
-mod Listening
+pub mod Listening
 mod Refusals

@@ -10,7 +10,7 @@ use Rattle.lib_base.specs.declared.outcomes.Refused.{Refused}
 use Rattle.lib_base.specs.declared.outcomes.Refused.TheVariants.{Broken, Memory}
 use Rattle.file_model.specs.declared.comment_rules.KindRule.TheVariants.{OtherKind}
 use Rattle.file_model.specs.Comments.{comments_at}
-use Rattle.file_model.specs.Files.{kind_rule_of, in_file, ReadsAs, ReadsAsFile}
+use Rattle.file_model.specs.Files.{kind_rule_of, in_file, ReadsAs, Reads}
 use Rattle.file_model.specs.Reading.{broken}
 use Rattle.file_model.proofs.CommentLaws.{breaks_inside}
 use Rattle.flac_stream.specs.Answers.{IsRefusalOf as IsFlacOnlyRefusal}
@@ -20,7 +20,7 @@ use Rattle.wave_chunks.specs.Answers.{IsRefusalOf as IsWaveRefusal}
 use Rattle.tag_writer.specs.Answers.{IsFlacRead, IsRefusalOf, IsFlacRefusalOf, IsCommentsSpan, AreComments, IsRefusalAt}
 
 -- bytes of no kind
-pub kind_refused : (bytes : List ℕ) → kind_named bytes ≡ None → ReadsAsFile bytes (broken (kind_rule_of OtherKind) 0)
+pub kind_refused : (bytes : List ℕ) → kind_named bytes ≡ None → Reads bytes (broken (kind_rule_of OtherKind) 0)
 kind_refused bytes is = subst (λ (kind : Option Kind). ReadsAs kind bytes (broken (kind_rule_of OtherKind) 0)) (sym is) refl
 
 -- bytes of a wave

@@ -9,7 +9,7 @@ use Rattle.lib_base.specs.declared.outcomes.Refused.TheVariants.{Broken, Memory}
 use Rattle.file_model.specs.declared.comment_rules.CommentBreak.{CommentBreak}
 use Rattle.file_model.specs.declared.flac_fields.TheConstants.{BLOCKS_AT}
 use Rattle.file_model.specs.Comments.{Comments, comment_rule_of, comments_at}
-use Rattle.file_model.specs.Files.{in_file, comments_in, ReadsWithComments, ReadsAsFile}
+use Rattle.file_model.specs.Files.{in_file, comments_in, ReadsWithComments, Reads}
 use Rattle.file_model.specs.FlacFile.{FlacBlock}
 use Rattle.file_model.specs.Reading.{broken}
 use Rattle.wave_chunks.specs.Answers.{IsReadOf as IsWaveRead}
@@ -30,7 +30,7 @@ IsAcceptedOf bytes (Flac file) = (kind_named bytes ≡ Some FlacKind) × IsFlacR
 
 -- The refusal is that of these bytes: they read as broken by its rule, at its place. Want of memory says nothing of them.
 abbrev pub IsRefusalOf : List ℕ → Refused → Type 0
-IsRefusalOf bytes (Broken fault) = ReadsAsFile bytes (broken fault.rule fault.place)
+IsRefusalOf bytes (Broken fault) = Reads bytes (broken fault.rule fault.place)
 IsRefusalOf bytes Memory = ⊤
 
 -- the same of bytes that are read as FLAC

@@ -1,6 +1,6 @@
 //! The sound of a file of either kind.
 ghost use Rattle.std.specs.Prelude.{◌≡◌, ℕ};
-ghost use Rattle.file_model.specs.Files.{ReadsAsFile};
+ghost use Rattle.file_model.specs.Files.{Reads};
 ghost use Rattle.file_model.specs.Pcm.{Pcm};
 ghost use Rattle.file_model.specs.Reading.{accepted as reads_as};
 ghost use Rattle.tag_writer.specs.Answers.{IsAcceptedOf};
@@ -23,11 +23,11 @@ impl<'a> AnySound<'a> {
     /// The sound of the file that `accept` gave of these bytes. It takes no memory.
     pub fn over(bytes: &'a [u8], accepted: &'a Accepted) -> AnySound<'a>
         requires { IsAcceptedOf bytes.now accepted.now }
-        ensures lists { (sound : Pcm) → ReadsAsFile bytes.now (reads_as sound)
+        ensures lists { (sound : Pcm) → Reads bytes.now (reads_as sound)
             → ⟦<AnySound<'a> as Sound>⟧.lists result ≡ sound.lists }
-        ensures depth { (sound : Pcm) → ReadsAsFile bytes.now (reads_as sound)
+        ensures depth { (sound : Pcm) → Reads bytes.now (reads_as sound)
             → ⟦<AnySound<'a> as Sound>⟧.depth result ≡ sound.depth }
-        ensures frames { (sound : Pcm) → ReadsAsFile bytes.now (reads_as sound)
+        ensures frames { (sound : Pcm) → Reads bytes.now (reads_as sound)
             → ⟦<AnySound<'a> as Sound>⟧.frames result ≡ sound.frames }
     {
         match accepted {

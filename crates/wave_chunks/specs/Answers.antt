@@ -6,7 +6,7 @@ use Rattle.lib_base.specs.declared.outcomes.Refused.TheVariants.{Broken, Memory}
 use Rattle.file_model.specs.declared.wave_fields.TheConstants.{CHUNKS_AT, CHUNK_HEAD_BYTES}
 use Rattle.file_model.specs.Chunks.{Chunk, Placed, Begins, named}
 use Rattle.file_model.specs.Pcm.{Pcm}
-use Rattle.file_model.specs.Reading.{Reads, broken}
+use Rattle.file_model.specs.Reading.{ReadsAsWave, broken}
 use Rattle.file_model.specs.Wave.{IsWaveOf}
 use Rattle.wave_chunks.specs.Shape.{Shape}
 use Rattle.wave_chunks.specs.Spans.{span_of, spans_from}
@@ -27,7 +27,7 @@ pub record IsReadOf (bytes : List ℕ) (wave : Shape) : Type 0 where
 
 -- The refusal is that of these bytes: they read as broken by its rule, at its place. Want of memory says nothing of them.
 abbrev pub IsRefusalOf : List ℕ → Refused → Type 0
-IsRefusalOf bytes (Broken fault) = Reads bytes (broken fault.rule fault.place)
+IsRefusalOf bytes (Broken fault) = ReadsAsWave bytes (broken fault.rule fault.place)
 IsRefusalOf bytes Memory = ⊤
 
 -- this is the content of the one `fmt ` chunk, and this its place
