@@ -12,7 +12,7 @@ use library_model::Reply;
 use percent_encoding::percent_decode;
 use std::alloc::Global;
 
-/// The line and what the request asks that it writes.
+/// What the request asks that a line writes, as a line.
 pub fn answer(alloc: Global, paths: &Paths, line: &str) -> Result<String> {
     let (head, body) = request_of(alloc, line)?;
     let asked = asked(alloc, paths, Bytes::of(head), Bytes::of(body))?;
@@ -52,7 +52,8 @@ fn asked(alloc: Global, paths: &Paths, head: Bytes, body: Bytes) -> Result<Strin
     let mut inbox = given(Inbox::new(alloc))?;
     match inbox.read_head(&mut source) {
         HeadRead::Head(heading) => told(alloc, paths, inbox.bytes(), &heading, body),
-        HeadRead::Ended | HeadRead::NoHead | HeadRead::Fault => bail!("no head"),
+        HeadRead::NoHead => Ok(String::from_str(alloc, "no head")?),
+        HeadRead::Ended | HeadRead::Fault => bail!("nothing is read"),
     }
 }
 
