@@ -15,7 +15,7 @@ mod spelling;
 
 pub use framing::{Framed, frame};
 pub use serving::{How, SessionEnd, session};
-pub use spelling::{closing_memory_reply, memory_reply, spell};
+pub use spelling::{closing_memory_reply, memory_reply, spell, spell_head};
 
 #[cfg(test)]
 mod tests;
