@@ -8,20 +8,20 @@ use Rattle.keeper_store.specs.declared.contents.Tables.{Tables}
 use Rattle.keeper_store.specs.declared.row_types.AlbumRow.{AlbumRow}
 use Rattle.keeper_store.specs.declared.row_types.RecordingRow.{RecordingRow}
 use Rattle.keeper_store.specs.declared.row_types.SegmentRow.{SegmentRow}
-use Rattle.keeper_store.specs.declared.contents.Change.TheVariants.{PutRecording, PutSegments, DropRecording}
+use Rattle.keeper_store.specs.declared.contents.Change.TheVariants.{PutAlbum, PutRecording, PutSegments, DropAlbum, DropRecording}
 use Rattle.keeper_store.specs.Changes.{changed}
 use Rattle.keeper_store.specs.EnergyBytes.{energies_in}
-use Rattle.keeper_store.specs.Puts.{put, without, recording_less, segments_less, recording_id}
+use Rattle.keeper_store.specs.Puts.{put, without, album_less, album_id, recording_less, segments_less, recording_id}
 use Rattle.keeper_store.proofs.Putting.{map-put, AllByRecursion-put, AllByRecursion-weaken}
 use Rattle.keeper_store.proofs.Dropping.{map-without, AllByRecursion-without}
-use Rattle.album_merge.specs.Members.{IsAlbumOf}
+use Rattle.album_merge.specs.Members.{IsAlbumOf, Kept}
 use Rattle.album_merge.specs.Tallies.{Tallied, StandsForMeasured}
 use Rattle.library_model.specs.RowRules.{measured_in, members_in, is_in_album, energies_of_take}
 use Rattle.catalogue_rows.specs.declared.kept.KeptAlbum.{KeptAlbum}
 use Rattle.catalogue_rows.specs.declared.kept.KeptRecording.{KeptRecording}
 use Rattle.catalogue_rows.specs.declared.tallied.TalliedRows.{TalliedRows}
-use Rattle.catalogue_rows.specs.KeptOrders.{kept_album_id, kept_recording_less, kept_recording_id}
-use Rattle.catalogue_rows.specs.Making.{AreAlone, IsAlone, IsUnnamed}
+use Rattle.catalogue_rows.specs.KeptOrders.{kept_album_id, kept_album_less, kept_recording_less, kept_recording_id}
+use Rattle.catalogue_rows.specs.Making.{AreAlone, HasNoMembers, IsAlone, IsUnnamed}
 use Rattle.catalogue_rows.specs.Tallied.{HasOwn, Holds, IsBeside, IsInAlbum, album_of, album_row, recording_row, numbers_of}
 
 -- a row found among parts
@@ -126,6 +126,46 @@ Holds-drop_alone rows next t id holds alone left numbers albums replies = record
     still a is =
         subst (λ (rs : List RecordingRow). IsAlbumOf a.members (map (λ (r : RecordingRow). (r.id, measured_in t r)) rs))
         (sym (members_without a.row.id id t.recordings alone)) is
+
+-- rows hold the tables with an album of no recording more
+pub Holds-put_empty_album : (rows next : TalliedRows) (t : Tables) (row : AlbumRow) (members : Kept) → Holds rows t → HasNoMembers row.id t
+    → IsAlbumOf members [] → next.albums.items ≡ put kept_album_less (record { row = row; members = members }) rows.albums.items
+    → numbers_of next ≡ numbers_of rows → next.recordings.items ≡ rows.recordings.items → next.replies.items ≡ rows.replies.items
+    → Holds next (changed (PutAlbum row) t)
+Holds-put_empty_album rows next t row members holds none stands put_is numbers recordings replies = record {
+  numbers = numbers ∙ holds.numbers;
+  albums = ap (map album_row) put_is
+      ∙ map-put kept_album_less album_less album_row (λ a b. refl) kept rows.albums.items
+      ∙ ap (put album_less row) holds.albums;
+  recordings = ap (map recording_row) recordings ∙ holds.recordings;
+  replies = replies ∙ holds.replies;
+  in_albums = subst (λ (l : List KeptAlbum). AllByRecursion (IsInAlbum t) l) (sym put_is)
+      (AllByRecursion-put (IsInAlbum t) kept_album_less kept rows.albums.items its holds.in_albums);
+  beside = subst (λ (l : List KeptRecording). AllByRecursion (IsBeside t) l) (sym recordings) holds.beside;
+}
+  where
+    kept : KeptAlbum
+    kept = record { row = row; members = members }
+
+    its : IsInAlbum t kept
+    its = subst (λ (rs : List RecordingRow). IsAlbumOf members (map (λ (r : RecordingRow). (r.id, measured_in t r)) rs)) (sym none) stands
+
+-- or with an album less
+pub Holds-drop_album : (rows next : TalliedRows) (t : Tables) (id : ℕ) → Holds rows t
+    → next.albums.items ≡ without kept_album_id id rows.albums.items
+    → numbers_of next ≡ numbers_of rows → next.recordings.items ≡ rows.recordings.items → next.replies.items ≡ rows.replies.items
+    → Holds next (changed (DropAlbum id) t)
+Holds-drop_album rows next t id holds left numbers recordings replies = record {
+  numbers = numbers ∙ holds.numbers;
+  albums = ap (map album_row) left
+      ∙ map-without kept_album_id album_id album_row (λ a. refl) id rows.albums.items
+      ∙ ap (without album_id id) holds.albums;
+  recordings = ap (map recording_row) recordings ∙ holds.recordings;
+  replies = replies ∙ holds.replies;
+  in_albums = subst (λ (l : List KeptAlbum). AllByRecursion (IsInAlbum t) l) (sym left)
+      (AllByRecursion-without (IsInAlbum t) kept_album_id id rows.albums.items holds.in_albums);
+  beside = subst (λ (l : List KeptRecording). AllByRecursion (IsBeside t) l) (sym recordings) holds.beside;
+}
 
 -- what holds of all rows holds of the one that is found
 found_holds : {K : Type 0} (P : K → Type 0) (test : K → Bool) (k : K) (ks : List K) → Some k ≡ find test ks → AllByRecursion P ks

@@ -1,6 +1,7 @@
 pub mod Answering
 pub mod Changed
 pub mod IdLemmas
+pub mod Importing
 pub mod Placed
 pub mod Summed
 pub mod Taken

@@ -9,7 +9,7 @@ use Rattle.keeper_store.specs.declared.contents.Change.{Change}
 use Rattle.keeper_store.specs.declared.contents.Change.TheVariants.{Counters, PutRecording, PutSegments}
 use Rattle.keeper_store.specs.Changes.{changed}
 use Rattle.album_merge.specs.Tallies.{Tallied, StandsForMeasured}
-use Rattle.library_model.specs.RowRules.{measured_in}
+use Rattle.library_model.specs.RowRules.{measured_in, members_in}
 use Rattle.catalogue_rows.specs.declared.tallied.TalliedRows.{TalliedRows}
 
 -- there is room for so many rows more, in each table
@@ -26,6 +26,10 @@ AreAlone id t = AllByRecursion (λ (r : RecordingRow). r.id ≡ id → r.album �
 pub record IsAlone (row : RecordingRow) (t : Tables) : Type 0 where
   pub itself : row.album ≡ None
   pub replaced : AreAlone row.id t
+
+-- no recording is in the album of this id
+abbrev pub HasNoMembers : ℕ → Tables → Type 0
+HasNoMembers id t = members_in id t.recordings ≡ []
 
 -- no recording names the take
 abbrev pub IsUnnamed : ℕ → Tables → Type 0

@@ -1,16 +1,19 @@
 //! Changes made in place, in the room that there is.
-ghost use Rattle.std.specs.Prelude.{◌+◌, ℕ, OnOk};
+ghost use Rattle.std.specs.Prelude.{◌≡◌, ◌+◌, ℕ, [], OnOk};
 ghost use Rattle.keeper_store.specs.Changes.{changed, changed_all};
 ghost use Rattle.keeper_store.specs.declared.contents.Change.TheVariants as change;
+ghost use Rattle.album_merge.specs.Members.{IsAlbumOf};
 ghost use Rattle.album_merge.specs.Tallies.{StandsForMeasured};
 ghost use Rattle.library_model.specs.RowRules.{measured_in};
-ghost use Rattle.catalogue_rows.specs.Making.{AreAlone, FitsImport, HasRoom, IsAlone, import_changes};
-ghost use Rattle.catalogue_rows.specs.Tallied.{Holds};
+ghost use Rattle.catalogue_rows.specs.Making.{AreAlone, FitsImport, HasNoMembers, HasRoom, IsAlone, import_changes};
+ghost use Rattle.catalogue_rows.specs.Tallied.{Holds, numbers_of};
 
 use crate::TalliedRows;
-use crate::kept::KeptRecording;
-use album_merge::TrackTally;
-use keeper_store::{NextNumbers, RecordingRow, ReplyRow, SegmentRow, Tables, drop_row, put_row};
+use crate::kept::{KeptAlbum, KeptRecording};
+use album_merge::{Album, TrackTally};
+use keeper_store::{
+    AlbumRow, NextNumbers, RecordingRow, ReplyRow, SegmentRow, Tables, drop_row, put_row,
+};
 use lib_base::Memory;
 
 /// A change of segments changes nothing here, since no segments are kept.
@@ -18,6 +21,7 @@ impl TalliedRows {
     /// Makes room for so many rows more in each table.
     pub fn reserve(&mut self, more: usize) -> Result<(), Memory>
         ensures held { (t : Tables) → Holds self.old t → Holds self.new t }
+        ensures numbers { numbers_of self.new ≡ numbers_of self.old }
         ensures room { OnOk result (HasRoom self.new more) }
     {
         self.albums.reserve(more)?;
@@ -57,6 +61,24 @@ impl TalliedRows {
     {
         self.set_numbers(next);
         self.put_alone(row, tally);
+    }
+
+    /// Puts an album of no recording, over one of its id.
+    pub fn put_empty_album(&mut self, row: AlbumRow, members: Album)
+        requires { HasRoom self.old 1 }
+        ensures held { (t : Tables) → Holds self.old t → HasNoMembers row.id t → IsAlbumOf members []
+            → Holds self.new (changed (change.PutAlbum row) t) }
+        ensures room { (more : ℕ) → HasRoom self.old (more + 1) → HasRoom self.new more }
+    {
+        put_row(&mut self.albums, KeptAlbum { row, members });
+    }
+
+    /// Takes out an album. Where there is none of the id, nothing changes.
+    pub fn drop_album(&mut self, id: u32)
+        ensures held { (t : Tables) → Holds self.old t → Holds self.new (changed (change.DropAlbum id) t) }
+        ensures room { (more : ℕ) → HasRoom self.old more → HasRoom self.new more }
+    {
+        drop_row(&mut self.albums, id);
     }
 
     /// Puts a kept reply, over one to its token.

@@ -1,5 +1,6 @@
-//! Tables that are opened, each with the bad row that is told.
+//! Tables that are opened, each with the bad row that is told, and rows looked up and changed.
 use crate::{NotOpened, open_rows};
+use album_merge::Album;
 use keeper_store::{AlbumRow, RecordingRow, ReplyRow, Rows, SegmentRow, Tables, bytes_of};
 use lib_base::{Bytes, Kind, Memory, Summary, Text};
 use library_model::{BadRow, RowRule, RowTable};
@@ -136,6 +137,54 @@ fn first_bad_row_is_told(rt: HostRuntime) -> Result<(), Fail> {
             bad,
             "album {album_off}, recording {off}, status {status}"
         );
+    }
+    Ok(())
+}
+
+// Once an album and a reply were put, and a recording and the album 5 were dropped.
+#[test]
+fn opened_rows_are_found(rt: HostRuntime) -> Result<(), Fail> {
+    let alloc = rt.alloc();
+    let mut rows = open_rows(&rt, alloc, tables(alloc, 0, 0, 200)?)?;
+    let members = Album::new(alloc)?;
+    let kept = reply(alloc, "a", 200)?;
+    rows.reserve(1)?;
+    rows.put_empty_album(album(alloc, 3, 0, 0), members);
+    rows.reserve(1)?;
+    rows.put_reply(kept);
+    rows.drop_alone(7);
+    rows.drop_album(5);
+    let next = rows.next_numbers();
+    assert_eq!(rt; (next.album, next.recording, next.take), (6, 8, 10));
+    for (id, take) in [
+        (1, Some(9)),
+        (2, None),
+        (4, Some(6)),
+        (6, Some(4)),
+        (7, None),
+    ] {
+        assert_eq!(rt; rows.recording(id).map(|row| row.take), take, "{id}");
+    }
+    for (id, frames, members) in [
+        (2, Some(38_400), Some(2)),
+        (3, Some(0), Some(0)),
+        (4, None, None),
+        (5, None, None),
+    ] {
+        assert_eq!(rt;
+            rows.album(id).map(|row| row.summary.frames),
+            frames,
+            "{id}"
+        );
+        assert_eq!(rt; rows.members(id).map(|album| album.len()), members, "{id}");
+    }
+    for (token, status) in [
+        ("B", Some(200)),
+        ("a", Some(200)),
+        ("b", Some(201)),
+        ("b-", None),
+    ] {
+        assert_eq!(rt; rows.reply(token).map(|row| row.status), status, "{token}");
     }
     Ok(())
 }
