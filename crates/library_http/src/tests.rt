@@ -1,6 +1,7 @@
 //! Requests, replies, and whole sessions.
-use crate::{Framed, How, SessionEnd, frame, memory_reply, session, spell};
+use crate::{Framed, How, SessionEnd, frame, memory_reply, session, spell, spell_head};
 use catalogue_core::Library;
+use http_routes::Route;
 use keeper_store::{MemKeeper, MemVault, Tables};
 use lib_base::{Bytes, MemSink, MemSource, Memory, Span};
 use library_model::{BodyKind, Question, Reply};
@@ -138,6 +139,27 @@ fn spells(rt: HostRuntime) -> Result<(), Fail> {
         spell(rt.alloc(), &memory, false)?.as_slice(),
         memory_reply()
     );
+    Ok(())
+}
+
+#[test]
+fn allows_methods(rt: HostRuntime) -> Result<(), Fail> {
+    let method = reply_of(rt.alloc(), 405, "{\"error\":\"method\"}")?;
+    for (allows, closes, want) in [
+        (
+            Some(Route::Album),
+            false,
+            "HTTP/1.1 405 Method Not Allowed\r\nContent-Type: application/json\r\nAllow: GET, DELETE\r\nContent-Length: 18\r\n\r\n",
+        ),
+        (
+            None,
+            true,
+            "HTTP/1.1 405 Method Not Allowed\r\nContent-Type: application/json\r\nContent-Length: 18\r\nConnection: close\r\n\r\n",
+        ),
+    ] {
+        let head = spell_head(rt.alloc(), &method, allows, closes)?;
+        assert_eq!(rt; head.as_str(), want, "{allows:?} {closes}");
+    }
     Ok(())
 }
 
