@@ -57,7 +57,7 @@ clock() {
 
 tools=()
 for tool in ffmpeg loudgain; do
-    if command -v $tool >/dev/null; then tools+=($tool); else echo "$tool is not here"; fi
+    if command -v $tool >/dev/null; then tools+=("$tool"); else echo "$tool is not here"; fi
 done
 
 # all runs of a file, one of each kind in turn, and what they gave

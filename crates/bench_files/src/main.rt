@@ -40,10 +40,7 @@ fn main(rt: HostRuntime) -> Result<()> {
 /// What is told of a file in one round.
 fn round<R: Threads + Sync>(rt: &R, alloc: Global, bytes: &[u8], workers: u32) -> Result<String> {
     match import(rt, alloc, bytes, workers.clamp(1, MOST_WORKERS)) {
-        Ok(found) => Ok(format!(in alloc;
-            "{} {} {}",
-            found.frames, found.peak, checksum(&found)
-        )?),
+        Ok(found) => Ok(format!(in alloc; "{} {} {}", found.frames, found.peak, checksum(&found))?),
         Err(Refused::Broken(broken)) => Ok(format!(in alloc;
             "{} at {}",
             broken.rule, broken.place
