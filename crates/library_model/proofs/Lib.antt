@@ -12,3 +12,7 @@ pub mod SegmentRows
 pub mod Determined
 pub mod NoBadRow
 pub mod ValidRows
+pub mod Dropped
+pub mod Resumming
+pub mod Keeping
+pub mod ActsOnce
