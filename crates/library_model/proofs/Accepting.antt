@@ -11,7 +11,7 @@ use Rattle.library_model.specs.declared.refusals.Refusal.TheVariants.{Ids}
 use Rattle.library_model.specs.Asked.{Asked, Wanted, change, command, malformed, question, refused}
 use Rattle.library_model.specs.Findings.{Finding, Finds, measured, broken_by}
 use Rattle.library_model.specs.InOrder.{IsKeptStatus}
-use Rattle.library_model.specs.Machine.{Verdict, Decides, DecidesChange, DecidesCommand, Step, Sums, accepts, import_step, imported, keeping, kept_reply, kept_under, makes, new_recording, recording_reply, refuses, state_after, stays, with_albums}
+use Rattle.library_model.specs.Machine.{Verdict, Decides, DecidesChange, DecidesCommand, Sums, accepts, import_step, imported, keeping, kept_reply, kept_under, makes, new_recording, recording_reply, refuses, state_after, stays, with_albums}
 use Rattle.library_model.specs.Replies.{refusal}
 use Rattle.library_model.specs.Stands.{IsValid, Resums, BringsWithin, AsksWithin, WantsWithin, HoldsFiles, HoldsFileOf, HoldsWanted}
 use Rattle.library_model.specs.State.{Album, Kept, State, numbers_end}

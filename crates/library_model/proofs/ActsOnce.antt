@@ -1,5 +1,5 @@
 -- A changing request acts once: its reply is kept under its token, and whatever comes with that token again changes nothing.
-use Rattle.std.proofs.Common.{◌≡◌, ◌||◌, ℕ, Bool, true, false, nat_le, Option, None, Some, List, [], ◌∷◌, refl, sym, ap, ◌∙◌, subst, if◌then◌else◌}
+use Rattle.std.proofs.Common.{◌≡◌, ◌||◌, ℕ, Bool, true, false, nat_le, Option, Some, List, [], ◌∷◌, ap, ◌∙◌, subst, if◌then◌else◌}
 use Rattle.lib_base.specs.declared.files.Summary.{Summary}
 use Rattle.file_model.specs.Pcm.{Pcm}
 use Rattle.keeper_store.specs.Puts.{put}
@@ -7,7 +7,7 @@ use Rattle.library_model.specs.declared.messages.Command.{Command}
 use Rattle.library_model.specs.declared.messages.Command.TheVariants.{Import}
 use Rattle.library_model.specs.declared.messages.Reply.{Reply}
 use Rattle.library_model.specs.declared.refusals.Refusal.TheVariants.{Ids}
-use Rattle.library_model.specs.Asked.{Asked, Wanted, change, command, question, refused}
+use Rattle.library_model.specs.Asked.{Asked, Wanted, change, question, refused}
 use Rattle.library_model.specs.Exchanges.{Answers, Exchange}
 use Rattle.library_model.specs.Findings.{Finding, broken_by, measured}
 use Rattle.library_model.specs.Machine.{Answer, AnswersBy, Decides, DecidesChange, DecidesCommand, Sums, Verdict, Way, accepts, as_decided, import_step, imported, keeper_failed, kept_reply, kept_under, makes, new_recording, recording_reply, refuses, state_after, stays, vault_failed, without_memory}

@@ -1,11 +1,11 @@
 -- Tables that are in order stay so where rows are dropped.
-use Rattle.std.proofs.Common.{◌≡◌, ◌≢◌, ◌≤◌, ◌+◌, ◌==◌, ◌||◌, true≢false, ℕ, Bool, true, false, not, cond, Option, None, Some, List, [], ◌∷◌, map, filter, refl, sym, ap, arith}
+use Rattle.std.proofs.Common.{◌≡◌, ◌≢◌, ◌≤◌, ◌+◌, ◌==◌, ◌||◌, true≢false, ℕ, Bool, true, false, not, cond, Option, None, Some, List, [], ◌∷◌, map, filter, refl, sym, arith}
 use Rattle.std.specs.Prelude.{count_by}
 use Rattle.std.specs.List.{AllByRecursion}
 use Rattle.std.proofs.lemmas.Bool.Decides.{nat_tests}
 use Rattle.std.proofs.lemmas.List.Sums.{sum_by-cons}
 use Rattle.keeper_store.specs.Changes.{changed}
-use Rattle.keeper_store.specs.Puts.{Ascends, without, album_id, album_less, recording_id, recording_less, segments_less, segments_take}
+use Rattle.keeper_store.specs.Puts.{without, album_id, album_less, recording_id, recording_less, segments_less, segments_take}
 use Rattle.keeper_store.specs.declared.contents.Change.TheVariants.{DropAlbum, DropRecording, DropSegments}
 use Rattle.keeper_store.specs.declared.contents.Tables.{Tables}
 use Rattle.keeper_store.specs.declared.row_types.AlbumRow.{AlbumRow}

@@ -1,19 +1,17 @@
 -- Kept replies: what is kept stays, and a state that keeps one more is valid.
-use Rattle.std.proofs.Common.{◌≡◌, Ordering, Less, Equal, Greater, ℕ, Bool, true, false, cond, true≢false, Option, None, Some, List, [], ◌∷◌, map, refl, sym, ap, ◌∙◌, subst}
+use Rattle.std.proofs.Common.{◌≡◌, Ordering, Less, Equal, Greater, ℕ, Bool, true, false, cond, true≢false, Option, None, Some, List, [], ◌∷◌, refl, sym, ap, ◌∙◌, subst}
 use Rattle.std.specs.Prelude.{nat_eq}
 use Rattle.std.specs.Cmp.Lexicographic.{pointwise, slice_cmp, bytes_decides, nat_list_cmp_total, texts_ties}
-use Rattle.std.specs.List.{AllByRecursion}
 use Rattle.std.specs.Ordering.{is_lt, nat_cmp, is_eq, ordering_reverse}
 use Rattle.keeper_store.specs.Changes.{changed}
 use Rattle.keeper_store.specs.Puts.{put, reply_less}
 use Rattle.keeper_store.specs.declared.contents.Change.TheVariants.{PutReply}
-use Rattle.keeper_store.specs.declared.contents.Tables.{Tables}
 use Rattle.keeper_store.specs.declared.row_types.ReplyRow.{ReplyRow}
 use Rattle.keeper_store.proofs.Putting.{map-put}
 use Rattle.library_model.specs.InOrder.{AreInOrder, IsKeptStatus}
 use Rattle.library_model.specs.Machine.{kept_under}
 use Rattle.library_model.specs.Names.{is_token}
-use Rattle.library_model.specs.Stands.{IsValid, album_row, recording_row, reply_row, segment_rows, tables_of}
+use Rattle.library_model.specs.Stands.{IsValid, reply_row, tables_of}
 use Rattle.library_model.specs.State.{Kept, State, kept_before}
 use Rattle.library_model.proofs.InOrderLemmas.{AreInOrder-put_reply}
 

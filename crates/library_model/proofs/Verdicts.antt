@@ -1,16 +1,11 @@
 -- There is one verdict, and an import within the limits is granted.
-use Rattle.std.proofs.Common.{◌≡◌, ℕ, false, Option, None, Some, ◌||◌, nat_le, if◌then◌else◌, List, refl, sym, ap, ◌∙◌, subst}
-use Rattle.lib_base.specs.declared.files.Summary.{Summary}
-use Rattle.file_model.specs.Pcm.{Pcm}
+use Rattle.std.proofs.Common.{◌≡◌, ℕ, Option, None, Some, List, sym, ap, ◌∙◌, subst}
 use Rattle.library_model.specs.declared.messages.Command.{Command}
 use Rattle.library_model.specs.declared.messages.Command.TheVariants.{Import}
-use Rattle.library_model.specs.declared.messages.Reply.{Reply}
-use Rattle.library_model.specs.declared.refusals.Refusal.TheVariants.{Ids}
 use Rattle.library_model.specs.Asked.{Asked, Wanted, change, command, malformed, question, refused}
-use Rattle.library_model.specs.Findings.{Finding, Finds, measured}
-use Rattle.library_model.specs.Machine.{Decides, DecidesChange, DecidesCommand, Step, Sums, Verdict, accepts, imported, keeping, kept_under, makes, new_recording, recording_reply, refuses, stays, step_of, verdict_reply, with_albums}
-use Rattle.library_model.specs.Replies.{refusal}
-use Rattle.library_model.specs.State.{Album, Kept, State, numbers_end}
+use Rattle.library_model.specs.Findings.{Finding}
+use Rattle.library_model.specs.Machine.{Decides, DecidesChange, DecidesCommand, Step, Sums, Verdict, accepts, keeping, kept_under, makes, refuses, step_of, with_albums}
+use Rattle.library_model.specs.State.{Album, Kept, State}
 use Rattle.library_model.proofs.Measuring.{Finds_unique}
 use Rattle.library_model.proofs.Resumming.{Resums-unique}
 

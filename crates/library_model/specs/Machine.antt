@@ -1,5 +1,5 @@
 -- The library as a machine: how it answers a request, and where it goes from there.
-use Rattle.std.specs.Prelude.{◌≡◌, ◌+◌, ◌||◌, ◌==◌, not, ℕ, Bool, true, List, [], nat_le, nat_eq, map, filter, Option, None, Some, if◌then◌else◌, ⊤}
+use Rattle.std.specs.Prelude.{◌≡◌, ◌+◌, ◌||◌, ◌==◌, not, ℕ, Bool, true, List, nat_le, nat_eq, map, filter, Option, None, Some, if◌then◌else◌, ⊤}
 use Rattle.std.specs.Cmp.Lexicographic.{pointwise}
 use Rattle.std.specs.List.{find, list_any}
 use Rattle.lib_base.specs.declared.files.Summary.{Summary}
