@@ -14,3 +14,5 @@ pub mod NoBadRow
 pub mod ValidRows
 pub mod Dropped
 pub mod Resumming
+pub mod Keeping
+pub mod ActsOnce
