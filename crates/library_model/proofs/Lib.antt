@@ -16,3 +16,4 @@ pub mod Dropped
 pub mod Resumming
 pub mod Keeping
 pub mod ActsOnce
+pub mod Exits

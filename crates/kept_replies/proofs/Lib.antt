@@ -1,0 +1,4 @@
+pub mod TokenLemmas
+pub mod Finding
+pub mod SeenLaws
+pub mod Repeats
