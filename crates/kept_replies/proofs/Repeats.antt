@@ -1,5 +1,5 @@
 -- What is seen among the kept replies of a state decides a change.
-use Rattle.std.proofs.Common.{◌≡◌, ℕ, Bool, true, false, Option, None, Some, List, map, refl, sym, ap, ◌∙◌, subst, if◌then◌else◌}
+use Rattle.std.proofs.Common.{◌≡◌, ℕ, Bool, true, false, Option, None, Some, List, map, refl, sym, Bor, ap, ◌∙◌, subst, if◌then◌else◌}
 use Rattle.std.specs.Cmp.Lexicographic.{bytes_decides}
 use Rattle.std.specs.List.{find}
 use Rattle.std.specs.Option.{option_map}
@@ -40,7 +40,7 @@ fresh_seen s token mark sees = by_kept (kept_under token s.replies) (of_kept s t
     by_kept (Some k) is = absurd is
 
 -- A repeat is answered with the reply that is seen.
-pub kept_seen : (s : State) (token mark : List ℕ) (wanted : Wanted) (reply : record { now : Reply })
+pub kept_seen : (s : State) (token mark : List ℕ) (wanted : Wanted) (reply : Bor Reply)
     → Sees s token mark (seen.Kept reply) → Decides s (change token mark wanted) (stays reply.now)
 kept_seen s token mark wanted reply sees =
     by_kept (kept_under token s.replies) refl (of_kept s token mark (seen.Kept reply) sees)

@@ -1,5 +1,5 @@
 -- What is seen of what was found under a token.
-use Rattle.std.proofs.Common.{◌≡◌, ◌≢◌, ℕ, Option, None, Some, List, sym, ap, ◌∙◌}
+use Rattle.std.proofs.Common.{◌≡◌, ◌≢◌, ℕ, Option, None, Some, List, sym, Bor, ap, ◌∙◌}
 use Rattle.std.specs.Option.{option_map}
 use Rattle.keeper_store.specs.declared.row_types.ReplyRow.{ReplyRow}
 use Rattle.library_model.specs.declared.messages.Reply.{Reply}
@@ -14,7 +14,7 @@ fresh-SeenAs None mark is = tt
 fresh-SeenAs (Some row) mark is = absurd (cc is)
 
 -- A request with the mark of the kept reply sees it.
-pub kept-SeenAs : (row : Option ReplyRow) (kept : KeptReply) (mark : List ℕ) (reply : record { now : Reply })
+pub kept-SeenAs : (row : Option ReplyRow) (kept : KeptReply) (mark : List ℕ) (reply : Bor Reply)
     → Some kept ≡ option_map kept_of row → kept.mark ≡ mark → reply.now ≡ kept.reply → SeenAs row mark (Kept reply)
 kept-SeenAs None kept mark reply is same said = absurd (cc is)
 kept-SeenAs (Some row) kept mark reply is same said =

@@ -64,7 +64,7 @@ pub enum Seen<'a> {
 
 /// How a request with a mark sees what was found under its token.
 pub(crate) fn see<'a>(found: Option<&'a KeptReply>, mark: &[u8; 16]) -> Seen<'a>
-    ensures { (row : Option ReplyRow) → option_copied found ≡ option_map kept_of row → SeenAs row mark.now result }
+    ensures { (row : Option ReplyRow) → option_copied found.entry ≡ option_map kept_of row → SeenAs row mark.now result }
 {
     match found {
         Some(kept) => if kept.mark.as_slice() == mark.as_slice() {
