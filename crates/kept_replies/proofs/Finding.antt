@@ -59,11 +59,11 @@ none_has token ks place kept rise at inside is differs k d within = elim (leb_te
         (at_read ks (λ (r : KeptReply). bytes_eq r.token token ≡ false) place kept inside is differs d)
     | inr e ↦ refuted (get_or ks k d).token token
         (λ same.
-            let up : kept_less (get_or ks place d) (get_or ks k d) ≡ true =
-            Ascends-at kept_less ks rise place k d (omega (arith, e.1, h.1)) within in
-            let below : is_lt (slice_cmp nat_cmp (get_or ks place d).token token) ≡ true =
-            subst (λ (t : List ℕ). is_lt (slice_cmp nat_cmp (get_or ks place d).token t) ≡ true) same up in
-            true≢false (sym below ∙ at.behind place d (omega arith) inside))
+        let up : kept_less (get_or ks place d) (get_or ks k d) ≡ true =
+        Ascends-at kept_less ks rise place k d (omega (arith, e.1, h.1)) within in
+        let below : is_lt (slice_cmp nat_cmp (get_or ks place d).token token) ≡ true =
+        subst (λ (t : List ℕ). is_lt (slice_cmp nat_cmp (get_or ks place d).token t) ≡ true) same up in
+        true≢false (sym below ∙ at.behind place d (omega arith) inside))
   ]
 ]
 

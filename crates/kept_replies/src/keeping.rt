@@ -67,6 +67,9 @@ impl KeptReplies {
 fn keep_all(alloc: Global, rows: Vec<ReplyRow>) -> Result<Vec<KeptReply>, Memory>
     ensures { IfOk result (λ kept. kept.items ≡ map kept_of rows.items) }
 {
-    let kept = rows.into_iter().map(|row| KeptReply::of(row)).collect(alloc)?;
+    let kept = rows
+        .into_iter()
+        .map(|row| KeptReply::of(row))
+        .collect(alloc)?;
     Ok(kept)
 }

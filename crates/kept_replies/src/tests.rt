@@ -79,7 +79,11 @@ fn replies_are_seen_under_their_tokens(rt: HostRuntime) -> Result<(), Fail> {
         ("zz", 5, 0),
         ("-", 1, 0),
     ] {
-        assert_eq!(rt; status_seen(alloc, &kept, token, mark)?, Some(seen), "{token} {mark}");
+        assert_eq!(rt;
+            status_seen(alloc, &kept, token, mark)?,
+            Some(seen),
+            "{token} {mark}"
+        );
     }
     Ok(())
 }
