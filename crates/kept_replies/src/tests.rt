@@ -57,13 +57,17 @@ fn status_seen(
 #[test]
 fn replies_are_seen_under_their_tokens(rt: HostRuntime) -> Result<(), Fail> {
     let alloc = rt.alloc();
-    let mut rows = Vec::new(alloc);
-    rows.push(row(alloc, "m", 1, 200)?)?;
-    rows.push(row(alloc, "t1", 2, 201)?)?;
-    let mut kept = KeptReplies::of(alloc, rows)?;
-    kept.reserve(3)?;
-    for (token, mark, status) in [("t", 3, 201), ("A", 4, 200), ("z", 5, 201)] {
-        kept.put(row(alloc, token, mark, status)?);
+    let mut kept = KeptReplies::of(alloc, Vec::new(alloc))?;
+    for (token, mark, status) in [
+        ("m", 1, 200),
+        ("t1", 2, 201),
+        ("t", 3, 201),
+        ("A", 4, 200),
+        ("z", 5, 201),
+    ] {
+        let row = row(alloc, token, mark, status)?;
+        kept.reserve(1)?;
+        kept.put(row);
     }
     for (token, mark, seen) in [
         ("m", 1, 200),
