@@ -37,6 +37,7 @@ impl Token {
         Ok(Some(Token { text }))
     }
 
+    /// Its text, which has the form of a token.
     pub fn as_str(&self) -> &str
         ensures text { result.now ≡ text_of self.now }
         ensures form { is_token (text_of self.now) ≡ true }
