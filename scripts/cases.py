@@ -331,7 +331,7 @@ class Library:
             return reply(409, error("ids"))
         e, s = summary(depth, frames, lists)
         r = dict(id=self.next_recording, take=self.next_take, channels=len(lists), depth=depth, summary=s,
-                 digest=hashlib.md5(file).hexdigest())
+                 digest=hashlib.md5(file).hexdigest(), album=None)
         self.recordings[r["id"]] = r
         self.files[r["take"]], self.energies[r["take"]] = file, e
         self.next_recording += 1
@@ -349,7 +349,7 @@ class Library:
             fields = ", ".join(f"{k}: {v if k in ('frames', 'peak') else 'None' if v is None else f'Some({v})'}"
                                for k, v in r["summary"].items())
             yield (f'recording {r["id"]}: take {r["take"]}, Wave, {r["channels"]} channels, {r["depth"]} bits, '
-                   f'album None, name "", md5 {r["digest"]}, Summary {{ {fields} }}')
+                   f'album {"None" if r["album"] is None else "Some(%d)" % r["album"]}, name "", md5 {r["digest"]}, Summary {{ {fields} }}')
         for take, e in self.energies.items():
             b = b"".join(v.to_bytes(11, "big") for v in e)
             yield f"segments {take}: {len(b)} bytes, md5 {hashlib.md5(b).hexdigest()}"
@@ -386,13 +386,16 @@ def next_request(data):
 
 # ---- Runs
 
-def run(case, files):
-    name, words, first, data = case["name"], case["words"], case["album"], case["input"]
-    library = Library(first)
+def run_over(library, case):
+    """The status and the output of a case whose tables are those of the library, which it changes."""
+    words, data = case["words"], case["input"]
+    named = [r["id"] for r in library.recordings.values() if r["album"] is not None]
     if words != ["session"]:
         status, out = 1, ["usage: loudlib session, serve, report, audit, trial or tag\n"]
-    elif first != 1:
-        status, out = 7, ["bad row: table 1 id 1 rule 0\n"]
+    elif library.next_album < 1:
+        status, out = 7, ["bad row: table 1 id 1 rule 1\n"]
+    elif named:
+        status, out = 7, [f"bad row: table 3 id {named[0]} rule 2\n"]
     elif len(data) > INPUT_LIMIT:
         status, out = 2, [reply(413, error("size"), True)]
     else:
@@ -405,13 +408,24 @@ def run(case, files):
                 break
             out.append(library.take_in(q[1]) if q[0] == "import" else library.ask(q[1]))
             data = q[2]
+    return status, out
+
+
+def run(case, files):
+    name, library = case["name"], Library(case["album"])
+    if case["over"]:
+        run_over(library, case["over"])
+        library.files = {}
+    for id, album in case["albums"]:
+        library.recordings[id]["album"] = album
+    status, out = run_over(library, case)
     written = lambda o: "".join("\\r" if c == "\r" else "\\n" if c == "\n" else "\\\\" if c == "\\" else c for c in o)
     return "\n".join([f"case {name}", f"status {status}"] + [f"output {written(o)}" for o in out]
                      + list(library.lines()))
 
 
 def cases(text):
-    files, made = {}, {}
+    files, made, whole = {}, {}, {}
     for lines in blocks(text):
         kind, _, name = lines[0].partition(" ")
         if kind == "file":
@@ -421,7 +435,7 @@ def cases(text):
                 builder.line(word, rest)
             files[name] = builder.bytes()
             continue
-        case = dict(name=name, words=["session"], album=1, input=b"", faults=False)
+        case = dict(name=name, words=["session"], album=1, albums=[], over=None, input=b"", faults=False)
         todo = list(lines[1:])
         while todo:
             line = todo.pop(0)
@@ -432,6 +446,10 @@ def cases(text):
                 case["words"] = rest.split()
             elif word == "next-album":
                 case["album"] = int(rest)
+            elif word == "over":
+                case["over"] = whole[rest]
+            elif word == "album":
+                case["albums"].append(tuple(map(int, rest.split())))
             elif word in ("fails", "pieces", "room"):
                 case["faults"] = True
             elif word == "import":
@@ -451,7 +469,7 @@ def cases(text):
                 case["input"] = (case["input"] + b"-" * int(rest))[:int(rest)]
             else:
                 raise ValueError(line)
-        made[name] = lines[1:]
+        made[name], whole[name] = lines[1:], case
         yield case, files
 
 

@@ -13,7 +13,6 @@ mod committing;
 mod examining;
 mod importing;
 mod libraries;
-mod opening;
 mod prepared;
 mod staging;
 #[cfg(test)]
@@ -21,7 +20,7 @@ mod tests;
 
 pub use asking::ask;
 pub use committing::commit;
-pub use libraries::{BadRow, Library, OpenRefusal};
-pub use library_model::{BodyKind, Command, Question, Reply, Request};
+pub use libraries::{Library, OpenRefusal};
+pub use library_model::{BadRow, BodyKind, Command, Question, Reply, Request};
 pub use prepared::{Prepared, Staged};
 pub use staging::stage;

@@ -1,22 +1,23 @@
 -- What a run of the program does.
-use Rattle.std.specs.Prelude.{◌≡◌, ◌≤◌, ◌⊎◌, ℕ, List, [], ◌∷◌, ◌++◌, Option, Some, IfSome, IsSome, IsNone, codes, decimal}
+use Rattle.std.specs.Prelude.{◌≡◌, ◌≤◌, ◌⊎◌, ℕ, List, [], ◌∷◌, ◌++◌, Option, None, Some, IfSome, codes, decimal}
 use Rattle.std.specs.Io.KnownBytes.{Appends}
 use Rattle.lib_base.specs.Faults.{Rose, CountsFault}
 use Rattle.lib_base.specs.Sources.{SourceView}
 use Rattle.lib_base.specs.Writes.{AppendsPart, SinkView}
-use Rattle.keeper_store.specs.Changes.{empty_tables}
 use Rattle.keeper_store.specs.Goes.{Goes}
 use Rattle.keeper_store.specs.Keepers.{KeeperView}
 use Rattle.keeper_store.specs.Vaults.{VaultView}
 use Rattle.keeper_store.specs.declared.contents.Tables.{Tables}
 use Rattle.library_model.specs.Asked.{Asked}
 use Rattle.http_model.specs.Framing.{End, ended, unframeable, RequestsOf}
-use Rattle.library_model.specs.State.{empty_state}
+use Rattle.library_model.specs.declared.bad_rows.BadRow.{BadRow}
+use Rattle.library_model.specs.RowRules.{IsFirstBad, table_number, row_rule_number}
+use Rattle.library_model.specs.Stands.{IsValid, tables_of}
+use Rattle.library_model.specs.State.{State}
 use Rattle.catalogue_core.specs.declared.libraries.Library.{Library}
 use Rattle.catalogue_core.specs.declared.libraries.OpenRefusal.{OpenRefusal}
 use Rattle.catalogue_core.specs.declared.libraries.OpenRefusal.TheVariants as refusal
-use Rattle.catalogue_core.specs.Kept.{Holds}
-use Rattle.catalogue_core.specs.Opening.{first_bad}
+use Rattle.catalogue_core.specs.Opening.{IsOpened}
 use Rattle.library_http.specs.declared.serving.How.{How}
 use Rattle.library_http.specs.Sessions.{Session}
 use Rattle.library_http.specs.World.{World, world}
@@ -48,9 +49,10 @@ abbrev pub usage_line : List ℕ
 usage_line = codes "usage: loudlib session, serve, report, audit, trial or tag" ++ 10 ∷ []
 
 -- the line for a row that breaks a rule
-abbrev pub bad_row_line : ℕ → ℕ → ℕ → List ℕ
-bad_row_line table id rule =
-    codes "bad row: table " ++ decimal table ++ codes " id " ++ decimal id ++ codes " rule " ++ decimal rule ++ 10 ∷ []
+abbrev pub bad_row_line : BadRow → List ℕ
+bad_row_line bad =
+    codes "bad row: table " ++ decimal (table_number bad.table) ++ codes " id " ++ decimal bad.id ++ codes " rule "
+    ++ decimal (row_rule_number bad.rule) ++ 10 ∷ []
 
 -- a fault of the sink, or want of memory
 abbrev pub IsBrokenOff : ℕ → Type 0
@@ -71,21 +73,21 @@ pub record Leaves (before now : Seen) : Type 0 where
   pub applies : now.keeper.applies ≡ before.keeper.applies
   pub vault : now.vault ≡ before.vault
 
--- A session over a library ran from the empty state, and ended so, with so many requests answered whole.
-pub record SessionRan (library : Library) (how : How) (answered : ℕ) (before now : Seen) : Type 0 where
+-- A session over a library ran, and ended so, with so many requests answered whole. It ran from each valid state that has these
+-- tables; there is one at most, if the blobs are told too.
+pub record SessionRan (tables : Tables) (library : Library) (how : How) (answered : ℕ) (before now : Seen) : Type 0 where
   pub library_now : Library
-  pub session : Session empty_state how answered before.source now.source before.sink now.sink
+  pub session : (s : State) → IsValid s → tables ≡ tables_of s → Session s how answered before.source now.source before.sink now.sink
       (world_of library before) (world_of library_now now)
 
--- The library of the tables was opened, which were empty where the keeper tells them, and then a session ran.
+-- The library of the keeper's tables was opened, of which no row breaks a rule, and then a session ran.
 pub record Served (how : How) (answered : ℕ) (before now : Seen) : Type 0 where
-  pub empty : IfSome before.keeper.tables (λ t. t ≡ empty_tables)
   pub opened : Seen
   pub opens : Leaves before opened
   pub unwritten : opened.sink ≡ before.sink
   pub library : Library
-  pub keeps : Holds library empty_tables
-  pub ran : SessionRan library how answered opened now
+  pub is_opened : IsOpened before.keeper.tables library
+  pub ran : SessionRan is_opened.tables library how answered opened now
 
 -- how far a run comes
 pub data Course : Type 0 where
@@ -104,10 +106,9 @@ Runs (not_opened refusal.KeeperFault) words before now n =
     IsCommand words × Leaves before now × (now.sink ≡ before.sink) × (n ≡ code status.KeeperFault)
 Runs (not_opened refusal.Memory) words before now n =
     IsCommand words × Leaves before now × (now.sink ≡ before.sink) × (n ≡ code status.Memory)
-Runs (not_opened (refusal.BadRow table id rule)) words before now n =
-    IsCommand words × Leaves before now
-    × IfSome before.keeper.tables (λ t. first_bad t ≡ Some (record { table = table; id = id; rule = rule }))
-    × Prints (bad_row_line table id rule) status.BadRow before.sink now.sink n
+Runs (not_opened (refusal.BadRow bad)) words before now n =
+    IsCommand words × Leaves before now × IfSome before.keeper.tables (λ t. IsFirstBad t (Some bad))
+    × Prints (bad_row_line bad) status.BadRow before.sink now.sink n
 Runs (served how answered) words before now n =
     IsCommand words × Served how answered before now × (n ≡ code (status_of how))
 
@@ -116,14 +117,21 @@ abbrev pub status_at : End → Status
 status_at ended = status.Ended
 status_at (unframeable reply) = status.Unframeable
 
+-- a row of the tables breaks a rule
+abbrev pub HasBadRow : Tables → Type 0
+HasBadRow tables = (bad : BadRow) × IsFirstBad tables (Some bad)
+
+-- the status is that of the end of the input
+abbrev pub IsOfEnd : List ℕ → ℕ → Type 0
+IsOfEnd input n = (requests : List Asked) × (end : End) × RequestsOf input requests end × (n ≡ code (status_at end))
+
 -- The status that words, an input and tables fix: that of words that are no command, that of tables with a row that breaks
--- a rule, or that of the end of the input.
+-- a rule, or, where the tables are those of a valid state, that of the end of the input.
 abbrev pub IsFixed : List (List ℕ) → List ℕ → Tables → ℕ → Type 0
 IsFixed words input tables n =
     (¬ IsCommand words × (n ≡ code status.Usage))
-    ⊎ ((IsCommand words × IsSome (first_bad tables) × (n ≡ code status.BadRow))
-    ⊎ (IsCommand words × IsNone (first_bad tables)
-    × ((requests : List Asked) × (end : End) × RequestsOf input requests end × (n ≡ code (status_at end)))))
+    ⊎ ((IsCommand words × HasBadRow tables × (n ≡ code status.BadRow))
+    ⊎ (IsCommand words × IsFirstBad tables None × ((s : State) → IsValid s → tables ≡ tables_of s → IsOfEnd input n)))
 
 -- The status is the one that words, input and tables fix, where source and keeper tell these, or memory was wanting.
 abbrev pub IsComplete : List (List ℕ) → Option (List ℕ) → Option Tables → ℕ → Type 0
@@ -141,8 +149,8 @@ pub record Causes (words : List (List ℕ)) (before now : Seen) (n : ℕ) : Type
   pub of_vault : before.vault.faults ≤ now.vault.faults
   pub usage_cause : n ≡ code status.Usage → ¬ IsCommand words
   pub usage : ¬ IsCommand words → (n ≡ code status.Usage) ⊎ IsBrokenOff n
-  pub bad_row_cause : n ≡ code status.BadRow → IfSome before.keeper.tables (λ t. IsSome (first_bad t))
-  pub bad_row : IsCommand words → IfSome before.keeper.tables (λ t. IsSome (first_bad t)
+  pub bad_row_cause : n ≡ code status.BadRow → IfSome before.keeper.tables HasBadRow
+  pub bad_row : IsCommand words → IfSome before.keeper.tables (λ t. HasBadRow t
       → (n ≡ code status.BadRow) ⊎ ((n ≡ code status.KeeperFault) ⊎ IsBrokenOff n))
   pub complete : ¬ Rose before.source.faults now.source.faults → ¬ Rose before.sink.faults now.sink.faults
       → ¬ Rose before.keeper.faults now.keeper.faults → IsComplete words before.source.left before.keeper.tables n

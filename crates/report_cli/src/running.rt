@@ -1,18 +1,17 @@
 //! A run of the program: its words, the opening of the library, and the command.
-ghost use Rattle.std.specs.Prelude.{◌≡◌, ◌≢◌, ◌≤◌, ◌↔◌, ℕ, List, false, map, IfSome, IfOk, IsSome, IsTrue, string_bytes};
+ghost use Rattle.std.specs.Prelude.{◌≡◌, ◌≢◌, ◌≤◌, ◌↔◌, ℕ, List, Option, false, map, IfSome, IfOk, IsTrue, string_bytes};
 ghost use Rattle.lib_base.specs.Faults.{CountsFault};
-ghost use Rattle.catalogue_core.specs.Opening.{first_bad};
-ghost use Rattle.keeper_store.specs.Changes.{empty_tables};
-ghost use Rattle.catalogue_core.specs.Kept.{Holds};
-ghost use Rattle.report_cli.specs.Running.{seen, IsCommand, usage_line, bad_row_line, Prints, Course, Runs, SessionRan, Causes};
+ghost use Rattle.catalogue_core.specs.Opening.{IsOpened};
+ghost use Rattle.report_cli.specs.Running.{seen, IsCommand, usage_line, bad_row_line, Prints, Course, Runs, SessionRan, HasBadRow, Causes};
 ghost use Rattle.report_cli.specs.Statuses.{code, status_of};
 ghost use Rattle.library_http.specs.declared.serving.How.{How};
 
 use crate::statuses::Status;
 use catalogue_core::{Library, OpenRefusal};
-use keeper_store::{Keeper, Vault};
+use keeper_store::{Keeper, Tables, Vault};
 use lib_base::{Door, Memory, Outside, Sink, Source, write_all};
 use library_http::session;
+use library_model::BadRow;
 use std::alloc::Global;
 use std::thread::Threads;
 
@@ -80,14 +79,12 @@ fn run_session<R: Threads + Sync, S: Source, K: Sink, D: Keeper, V: Vault>(
     ensures of_sink { CountsFault (result ≡ Status.SinkFault) (K.shown sink.old).faults (K.shown sink.new).faults }
     ensures of_keeper { CountsFault (result ≡ Status.KeeperFault) (D.shown keeper.old).faults (D.shown keeper.new).faults }
     ensures of_vault { (V.shown vault.old).faults ≤ (V.shown vault.new).faults }
-    ensures bad_row_cause { result ≡ Status.BadRow → IfSome (D.shown keeper.old).tables (λ t. IsSome (first_bad t)) }
+    ensures bad_row_cause { result ≡ Status.BadRow → IfSome (D.shown keeper.old).tables HasBadRow }
 {
     match Library::open(alloc, keeper) {
         Ok(library) => serve(rt, alloc, library, source, sink, keeper, vault),
         Err(OpenRefusal::KeeperFault) => Status::KeeperFault,
-        Err(OpenRefusal::BadRow { table, id, rule }) => {
-            print_bad_row(alloc, table, id, rule, sink)
-        }
+        Err(OpenRefusal::BadRow(bad)) => print_bad_row(alloc, bad, sink),
         Err(OpenRefusal::Memory) => Status::Memory,
     }
 }
@@ -102,7 +99,8 @@ fn serve<R: Threads + Sync, S: Source, K: Sink, D: Keeper, V: Vault>(
     keeper: &mut D,
     vault: &mut V,
 ) -> Status
-    ensures serves { Holds library empty_tables → (how : How) × (answered : ℕ) × SessionRan library how answered
+    ensures serves { (told : Option Tables) (opened : IsOpened told library)
+        → (how : How) × (answered : ℕ) × SessionRan opened.tables library how answered
         (seen (S.shown source.old) (K.shown sink.old) (D.shown keeper.old) (V.shown vault.old))
         (seen (S.shown source.new) (K.shown sink.new) (D.shown keeper.new) (V.shown vault.new))
         × (result ≡ status_of how) }
@@ -126,20 +124,21 @@ fn serve<R: Threads + Sync, S: Source, K: Sink, D: Keeper, V: Vault>(
 }
 
 /// Writes the line for a row that breaks a rule.
-fn print_bad_row<K: Sink>(alloc: Global, table: u8, id: u64, rule: u8, sink: &mut K) -> Status
-    ensures prints { Prints (bad_row_line table id rule) Status.BadRow (K.shown sink.old) (K.shown sink.new) (code result) }
+fn print_bad_row<K: Sink>(alloc: Global, bad: BadRow, sink: &mut K) -> Status
+    ensures prints { Prints (bad_row_line bad) Status.BadRow (K.shown sink.old) (K.shown sink.new) (code result) }
     ensures faults { CountsFault (result ≡ Status.SinkFault) (K.shown sink.old).faults (K.shown sink.new).faults }
 {
-    match bad_row_text(alloc, table, id, rule) {
+    match bad_row_text(alloc, bad) {
         Ok(text) => print(sink, text.as_bytes(), Status::BadRow),
         Err(Memory) => Status::Memory,
     }
 }
 
 /// The line for a row that breaks a rule.
-fn bad_row_text(alloc: Global, table: u8, id: u64, rule: u8) -> Result<String, Memory>
-    ensures { IfOk result (λ text. string_bytes text ≡ bad_row_line table id rule) }
+fn bad_row_text(alloc: Global, bad: BadRow) -> Result<String, Memory>
+    ensures { IfOk result (λ text. string_bytes text ≡ bad_row_line bad) }
 {
+    let (table, id, rule) = (bad.table.number(), bad.id, bad.rule.number());
     let text = format!(in alloc; "bad row: table {table} id {id} rule {rule}\n")?;
     Ok(text)
 }

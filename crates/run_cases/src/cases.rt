@@ -2,8 +2,9 @@
 
 use crate::files::{File, add_hex, find};
 use anyhow::{Context, Result, bail};
-use keeper_store::Tables;
+use keeper_store::{Rows, Tables};
 use std::alloc::Global;
+use std::mem;
 
 /// A run: its words, its input, and how its objects behave.
 #[derive(Drop)]
@@ -34,16 +35,18 @@ pub struct Lines<'a> {
     pub lines: Vec<&'a str>,
 }
 
-/// The case that the lines give, over these files and the cases before it.
+/// The case that the lines give, over these tables and files, and the cases before it.
 pub fn read_case(
     alloc: Global,
+    tables: Tables,
     lines: &[&str],
     before: &[Lines<'_>],
     files: &[File],
 ) -> Result<Case> {
-    let mut case = new_case(alloc)?;
+    let mut case = new_case(alloc, tables)?;
     for line in lines {
         match line.split_once(' ') {
+            Some(("over", _)) => {}
             Some(("like", name)) => obey_all(alloc, &mut case, lines_of(before, name)?, files)?,
             _ => obey(alloc, &mut case, line, files).context(format_args!("{line}"))?,
         }
@@ -52,7 +55,7 @@ pub fn read_case(
 }
 
 /// The lines of the case of a name.
-fn lines_of<'a>(cases: &'a [Lines<'a>], name: &str) -> Result<&'a [&'a str]> {
+pub fn lines_of<'a>(cases: &'a [Lines<'a>], name: &str) -> Result<&'a [&'a str]> {
     match cases.iter().find(|case| case.name == name) {
         Some(case) => Ok(case.lines.as_slice()),
         None => bail!("no case {name}"),
@@ -67,8 +70,8 @@ fn obey_all(alloc: Global, case: &mut Case, lines: &[&str], files: &[File]) -> R
     Ok(())
 }
 
-/// The session over an empty input and empty tables, in which nothing fails.
-fn new_case(alloc: Global) -> Result<Case> {
+/// The session over an empty input and these tables, in which nothing fails.
+fn new_case(alloc: Global, tables: Tables) -> Result<Case> {
     Ok(Case {
         words: words_of(alloc, "session")?,
         input: Vec::new(alloc),
@@ -80,7 +83,7 @@ fn new_case(alloc: Global) -> Result<Case> {
             keeper: Vec::new(alloc),
             vault: Vec::new(alloc),
         },
-        tables: Tables::empty(alloc),
+        tables,
     })
 }
 
@@ -93,6 +96,7 @@ fn obey(alloc: Global, case: &mut Case, line: &str, files: &[File]) -> Result<()
         "pieces" => case.piece = rest.parse::<usize>()?,
         "room" => case.room = rest.parse::<usize>()?,
         "next-album" => case.tables.next_album = rest.parse::<u32>()?,
+        "album" => set_album(alloc, &mut case.tables, rest)?,
         _ => add_input(alloc, &mut case.input, word, rest, files)?,
     }
     Ok(())
@@ -174,5 +178,20 @@ fn set_failing(alloc: Global, failing: &mut Failing, words: &str) -> Result<()> 
         "vault" => failing.vault = calls,
         _ => bail!("no such object"),
     }
+    Ok(())
+}
+
+/// Writes the id of an album into the row of a recording: the recording's id, and the album's.
+fn set_album(alloc: Global, tables: &mut Tables, words: &str) -> Result<()> {
+    let (id, album) = words.split_once(' ').context("two ids are wanted")?;
+    let (id, album) = (id.parse::<u32>()?, album.parse::<u32>()?);
+    let none = Rows::of(Vec::new(alloc));
+    let mut rows = mem::replace(&mut tables.recordings, none).into_vec();
+    for row in rows.iter_mut() {
+        if row.id == id {
+            row.album = Some(album);
+        }
+    }
+    tables.recordings = Rows::of(rows);
     Ok(())
 }

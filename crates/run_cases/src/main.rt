@@ -11,11 +11,13 @@ mod pieces;
 mod reports;
 mod runs;
 
-use crate::cases::{Lines, read_case};
+use crate::cases::{Lines, lines_of, read_case};
 use crate::files::{File, make_file};
 use crate::reports::report;
 use crate::runs::run_case;
 use anyhow::{Context, Result, bail};
+use keeper_store::Tables;
+use lib_base::Memory;
 use std::alloc::Global;
 use std::io;
 use std::thread::Threads;
@@ -78,8 +80,29 @@ impl<'a> Told<'a> {
         name: &str,
         lines: &[&str],
     ) -> Result<String> {
+        let tables = self.tables_before(rt, alloc, lines)?;
         let (files, cases) = (self.files.as_slice(), self.cases.as_slice());
-        let case = read_case(alloc, lines, cases, files)?;
+        let case = read_case(alloc, tables, lines, cases, files)?;
         report(alloc, name, &run_case(rt, alloc, case)?)
+    }
+
+    /// The tables that a case begins with: those that the case leaves over which it runs, or empty
+    /// ones.
+    fn tables_before<R: Threads + Sync>(
+        &self,
+        rt: &R,
+        alloc: Global,
+        lines: &[&str],
+    ) -> Result<Tables> {
+        let empty = Tables::empty(alloc);
+        let Some(name) = lines.iter().find_map(|line| line.strip_prefix("over ")) else {
+            return Ok(empty);
+        };
+        let (files, cases) = (self.files.as_slice(), self.cases.as_slice());
+        let before = read_case(alloc, empty, lines_of(cases, name)?, cases, files)?;
+        match run_case(rt, alloc, before)?.keeper.tables() {
+            Ok(tables) => Ok(tables),
+            Err(Memory) => bail!("want of memory"),
+        }
     }
 }

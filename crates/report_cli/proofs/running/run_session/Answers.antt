@@ -7,12 +7,12 @@ use Rattle.report_cli.proofs.running.run_session.Goals as goal
 
 pub returns-in-Ok-clause-runs : goal.returns-in-Ok-clause-runs
 returns-in-Ok-clause-runs g c = λ words is.
-    let ran = c.serve.ensures.serves c.in-Ok.ensures.begins in (
+    let told = (g.D.Keeper.shown c.args.keeper.now).tables in
+    let ran = c.serve.ensures.serves told c.in-Ok.ensures.opens in (
       served ran.0 ran.1,
       (
         is,
         record {
-          empty = c.in-Ok.ensures.empty;
           opened = seen (g.S.Source.shown c.args.source.now) (g.K.Sink.shown c.args.sink.now) (g.D.Keeper.shown c.open.new.keeper)
               (g.V.Vault.shown c.args.vault.now);
           opens = record {
@@ -24,7 +24,7 @@ returns-in-Ok-clause-runs g c = λ words is.
           };
           unwritten = refl;
           library = c.in-Ok.library;
-          keeps = c.in-Ok.ensures.begins;
+          is_opened = c.in-Ok.ensures.opens;
           ran = ran.2;
         },
         ap code ran.3,
@@ -50,7 +50,7 @@ returns-in-Err-KeeperFault-clause-runs g c = λ words is. (
 
 pub returns-in-Err-BadRow-clause-runs : goal.returns-in-Err-BadRow-clause-runs
 returns-in-Err-BadRow-clause-runs g c = λ words is. (
-  not_opened (refusal.BadRow c.in-Err-BadRow.table c.in-Err-BadRow.id c.in-Err-BadRow.rule),
+  not_opened (refusal.BadRow c.in-Err-BadRow.bad),
   (
     is,
     record {
@@ -60,7 +60,7 @@ returns-in-Err-BadRow-clause-runs g c = λ words is. (
       applies = c.open.ensures.applies;
       vault = refl;
     },
-    bad_opened _ _ _ _ _ c.in-Err-BadRow.field-0-is c.in-Err-BadRow.ensures.opens,
+    bad_opened _ _ _ c.in-Err-BadRow.field-0-is c.in-Err-BadRow.ensures.opens,
     c.print_bad_row.ensures.prints,
   ),
 )
