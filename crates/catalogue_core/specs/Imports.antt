@@ -1,7 +1,6 @@
 -- What an import changes in the tables.
 use Rattle.std.specs.Prelude.{◌≡◌, ◌+◌, ◌⊎◌, ◌||◌, ℕ, Bool, true, false, nat_le, List, [], ◌∷◌, None}
 use Rattle.md5.specs.Md5.{md5}
-use Rattle.lib_base.specs.declared.files.Kind.TheVariants.{Wave}
 use Rattle.lib_base.specs.declared.files.Measured.{Measured}
 use Rattle.lib_base.specs.declared.files.Summary.{Summary}
 use Rattle.lib_base.specs.Faults.{Rose}
@@ -12,6 +11,7 @@ use Rattle.keeper_store.specs.declared.row_types.RecordingRow.{RecordingRow}
 use Rattle.keeper_store.specs.declared.row_types.SegmentRow.{SegmentRow}
 use Rattle.library_model.specs.declared.refusals.Refusal.TheVariants.{Ids, Vault}
 use Rattle.library_model.specs.Bodies.{row_reply}
+use Rattle.library_model.specs.Findings.{kind_of}
 use Rattle.library_model.specs.Replies.{refusal}
 use Rattle.library_model.specs.Stands.{row_of, segments_of}
 use Rattle.library_model.specs.State.{numbers_end}
@@ -19,9 +19,9 @@ use Rattle.catalogue_core.specs.declared.prepared.Prepared.{Prepared}
 use Rattle.catalogue_core.specs.declared.prepared.Staged.{Staged}
 use Rattle.catalogue_core.specs.declared.prepared.Staged.TheVariants.{Refused, Ready}
 
--- the row of an imported file of which that is measured, with its levels, under the next numbers
+-- the row of an imported file of which that is measured, with its levels, under the next numbers: in no album, with no name
 abbrev pub import_row : NextNumbers → List ℕ → Measured → Summary → RecordingRow
-import_row next file m summary = row_of next.recording None [] next.take Wave (md5 file) m summary
+import_row next file m summary = row_of next.recording None [] next.take (kind_of file) (md5 file) m summary
 
 -- the counters rise, and both rows are put
 abbrev pub import_changes : NextNumbers → RecordingRow → SegmentRow → List Change

@@ -10,7 +10,7 @@ ghost use Rattle.catalogue_core.specs.Kept.{Holds, numbers_of};
 use crate::{Library, Prepared};
 use json_bodies::{describe_row, refuse};
 use keeper_store::{Batch, Change, NextNumbers, RecordingRow, Rows, SegmentRow, Tables, bytes_of};
-use lib_base::{Kind, Measured, Memory, Summary, Text};
+use lib_base::{Kind, Measured, Memory, Summary, Text, kind_of};
 use library_model::Refusal;
 use md5::{Digest, Md5};
 use std::alloc::Global;
@@ -85,7 +85,7 @@ fn new_row(
         album: None,
         name: Text::of(String::new(alloc)),
         take: next.take,
-        kind: Kind::Wave,
+        kind: kind_of(file).unwrap_or(Kind::Wave),
         channels: measured.channels,
         depth: measured.depth,
         digest: digest_of(file),

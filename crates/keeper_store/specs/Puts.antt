@@ -1,8 +1,12 @@
 -- Rows in the order of a test.
-use Rattle.std.specs.Prelude.{◌≡◌, ◌≤◌, ◌<◌, ℕ, Bool, true, false, List, [], ◌∷◌, ◌++◌, length, take, drop, slice_index_or, if◌then◌else◌, nat_lt}
+use Rattle.std.specs.Prelude.{◌≡◌, ◌≤◌, ◌<◌, ◌==◌, ℕ, Bool, true, false, not, List, [], ◌∷◌, ◌++◌, length, take, drop, filter, slice_index_or, if◌then◌else◌, nat_lt}
+use Rattle.std.specs.Cmp.Lexicographic.{slice_cmp}
 use Rattle.std.specs.Coded.{Coded-set, coded_bool, ×_prop, →_prop, Unit-prop}
 use Rattle.std.specs.List.{AllByRecursion, AllByRecursion-prop}
+use Rattle.std.specs.Ordering.{nat_cmp, is_lt}
+use Rattle.keeper_store.specs.declared.row_types.AlbumRow.{AlbumRow}
 use Rattle.keeper_store.specs.declared.row_types.RecordingRow.{RecordingRow}
+use Rattle.keeper_store.specs.declared.row_types.ReplyRow.{ReplyRow}
 use Rattle.keeper_store.specs.declared.row_types.SegmentRow.{SegmentRow}
 
 -- a row put in its place among ascending rows: after those that are less, and in place of one that is equal
@@ -13,6 +17,14 @@ put less row (r ∷ rs) =
     else if less row r then row ∷ r ∷ rs
     else row ∷ rs
 
+-- rows without those of a number
+abbrev pub without : {A : Type 0} → (A → ℕ) → ℕ → List A → List A
+without number n rows = filter (λ row. not (number row == n)) rows
+
+-- albums ascend by their ids
+abbrev pub album_less : AlbumRow → AlbumRow → Bool
+album_less a b = nat_lt a.id b.id
+
 -- recordings ascend by their ids
 abbrev pub recording_less : RecordingRow → RecordingRow → Bool
 recording_less a b = nat_lt a.id b.id
@@ -20,6 +32,20 @@ recording_less a b = nat_lt a.id b.id
 -- segments ascend by their takes
 abbrev pub segments_less : SegmentRow → SegmentRow → Bool
 segments_less a b = nat_lt a.take b.take
+
+-- replies ascend by the bytes of their tokens
+abbrev pub reply_less : ReplyRow → ReplyRow → Bool
+reply_less a b = is_lt (slice_cmp nat_cmp a.token b.token)
+
+-- the numbers of rows: ids, and takes of segments
+abbrev pub album_id : AlbumRow → ℕ
+album_id row = row.id
+
+abbrev pub recording_id : RecordingRow → ℕ
+recording_id row = row.id
+
+abbrev pub segments_take : SegmentRow → ℕ
+segments_take row = row.take
 
 -- a test of which row comes first
 pub record IsOrder {A : Type 0} (less : A → A → Bool) : Type 0 where
@@ -49,3 +75,9 @@ pub record IsPlaceOf {A : Type 0} (less : A → A → Bool) (row : A) (xs : List
   pub within : place ≤ length xs
   pub splits : put less row xs ≡ take place xs ++ put less row (drop place xs)
   pub stops : (d : A) → place < length xs → less (slice_index_or xs place d) row ≡ false
+
+-- the place of a number: the rows before it have lesser numbers, those from there on have not
+pub record IsPlaceOfNumber {A : Type 0} (number : A → ℕ) (n : ℕ) (xs : List A) (place : ℕ) : Type 0 where
+  pub within : place ≤ length xs
+  pub before : (k : ℕ) (d : A) → k < place → number (slice_index_or xs k d) < n
+  pub behind : (k : ℕ) (d : A) → place ≤ k → k < length xs → n ≤ number (slice_index_or xs k d)

@@ -22,7 +22,7 @@ use Rattle.library_model.specs.Machine.{Answer, AnswersBy, Way, accepts, stays, 
 use Rattle.library_model.specs.Exchanges.{exchange, counted}
 use Rattle.library_model.specs.Refusals.{status_of}
 use Rattle.library_model.specs.Replies.{refusal}
-use Rattle.library_model.specs.Stands.{HoldsFileOf, tables_of}
+use Rattle.library_model.specs.Stands.{BringsWithin, HoldsFileOf, tables_of}
 use Rattle.library_model.specs.State.{Recording, State}
 use Rattle.library_model.proofs.Accepting.{accepted-IsValid, accepted-HoldsFiles}
 use Rattle.library_model.proofs.Imports.{HoldsFiles-kept}
@@ -202,11 +202,12 @@ Acts-asked s asked reply w keeps is =
 
 -- a change that was made acts as the verdict says
 Acts-made : (s : State) (request : Request) (p : Prepared) (reply : Reply) (r : Result Staged Memory) (lib0 lib1 lib2 : Library)
-    (keeper0 keeper2 : KeeperView) (vault0 vault2 : VaultView) → Keeps lib0 s → Stages request.command lib0 lib1 vault0 vault2 r
+    (keeper0 keeper2 : KeeperView) (vault0 vault2 : VaultView) → Keeps lib0 s → BringsWithin request.command
+    → Stages request.command lib0 lib1 vault0 vault2 r
     → Prepares s request p → Goes (λ _ blobs. HoldsFileOf request.command (numbers_of lib0).take blobs) vault0.blobs vault2.blobs
     → Commits p lib1 lib2 keeper0 keeper2 reply → IsMade p lib1 lib2 keeper0 keeper2 reply
     → Acts s (change request) reply (world lib0 keeper0 vault0) (world lib2 keeper2 vault2)
-Acts-made s request p reply r lib0 lib1 lib2 keeper0 keeper2 vault0 vault2 keeps stages prepares put commits made =
+Acts-made s request p reply r lib0 lib1 lib2 keeper0 keeper2 vault0 vault2 keeps within stages prepares put commits made =
     let take = ap (λ (n : NextNumbers). n.take) keeps.rows.numbers in
     let is = made.reply_is in
     let rows : Holds lib2 (tables_of prepares.next) =
@@ -216,7 +217,7 @@ Acts-made s request p reply r lib0 lib1 lib2 keeper0 keeper2 vault0 vault2 keeps
     (record { way = as_decided (accepts p.reply prepares.next); answers = (prepares.decides, is, refl) })
     (record {
       keeps = record {
-        valid = accepted-IsValid s (change request) p.reply prepares.next keeps.valid prepares.decides;
+        valid = accepted-IsValid s (change request) p.reply prepares.next keeps.valid within prepares.decides;
         rows = rows;
       };
       rows = Goes-weaker _ _ (λ old new changed_is old_is. changed_is ∙ ap (changed_all p.batch.changes) old_is ∙ prepares.rows)
@@ -232,16 +233,17 @@ Acts-made s request p reply r lib0 lib1 lib2 keeper0 keeper2 vault0 vault2 keeps
 
 -- what a commit answers acts
 pub Acts-committed : (s : State) (request : Request) (p : Prepared) (reply : Reply) (r : Result Staged Memory) (lib0 lib1 lib2 : Library)
-    (keeper0 keeper2 : KeeperView) (vault0 vault2 : VaultView) → Keeps lib0 s → Stages request.command lib0 lib1 vault0 vault2 r
+    (keeper0 keeper2 : KeeperView) (vault0 vault2 : VaultView) → Keeps lib0 s → BringsWithin request.command
+    → Stages request.command lib0 lib1 vault0 vault2 r
     → Prepares s request p → Goes (λ _ blobs. HoldsFileOf request.command (numbers_of lib0).take blobs) vault0.blobs vault2.blobs
     → Commits p lib1 lib2 keeper0 keeper2 reply
     → Acts s (change request) reply (world lib0 keeper0 vault0) (world lib2 keeper2 vault2)
-Acts-committed s request p reply r lib0 lib1 lib2 keeper0 keeper2 vault0 vault2 keeps stages prepares put commits =
+Acts-committed s request p reply r lib0 lib1 lib2 keeper0 keeper2 vault0 vault2 keeps within stages prepares put commits =
     let w0 : World = world lib0 keeper0 vault0 in
     let w2 : World = world lib2 keeper2 vault2 in
     let again : IsLeft lib1 lib2 keeper0 keeper2 → HoldsAgain lib0 lib2 = λ left t holds. left.holds t (stages.held t holds) in
     elim commits.settles [
-      | inl h ↦ Acts-made s request p reply r lib0 lib1 lib2 keeper0 keeper2 vault0 vault2 keeps stages prepares put commits h
+      | inl h ↦ Acts-made s request p reply r lib0 lib1 lib2 keeper0 keeper2 vault0 vault2 keeps within stages prepares put commits h
       | inr other ↦ elim other [
         | inl h ↦
             let status : reply.status ≡ status_of cause.Keeper = ap (λ (r : Reply). r.status) h.1 in

@@ -3,6 +3,7 @@ ghost use Rattle.std.specs.Prelude.{◌≡◌, ◌≤◌, false};
 ghost use Rattle.lib_base.specs.Writes.{WritesAll};
 ghost use Rattle.library_model.specs.Asked.{change};
 ghost use Rattle.http_model.specs.Spelling.{spelled};
+ghost use Rattle.library_model.specs.Stands.{BringsWithin, IsWithinLimit};
 ghost use Rattle.library_model.specs.State.{State};
 ghost use Rattle.catalogue_core.specs.Kept.{Keeps};
 ghost use Rattle.measure_pool.specs.declared.plans.TheConstants.{MOST_WORKERS};
@@ -30,6 +31,7 @@ pub fn answer<R: Threads + Sync, D: Keeper, V: Vault, L: Ledger>(
     workers: u32,
     steps: &mut Steps<L>,
 ) -> Option<Reply>
+    requires within { BringsWithin request.command }
     requires some { 1 ≤ workers }
     requires most { workers ≤ MOST_WORKERS }
     ensures acts { (s : State) → Keeps library.old s → Acts s (change request) (reply_given result)
@@ -56,6 +58,7 @@ pub fn answer_import<R: Threads + Sync, D: Keeper, V: Vault, L: Ledger>(
     workers: u32,
     steps: &mut Steps<L>,
 ) -> Option<Reply>
+    requires within { IsWithinLimit file.now }
     requires some { 1 ≤ workers }
     requires most { workers ≤ MOST_WORKERS }
     ensures acts { (s : State) → Keeps library.old s → Acts s (change (record { command = Command.Import file.now })) (reply_given result)

@@ -3,6 +3,7 @@ ghost use Rattle.std.specs.Prelude.{◌≡◌, ◌≤◌, ◌<◌, ◌⊎◌, le
 ghost use Rattle.lib_base.specs.Faults.{Rose, CountsFault};
 ghost use Rattle.library_model.specs.Asked as asked;
 ghost use Rattle.library_model.specs.Asked.{change};
+ghost use Rattle.library_model.specs.Stands.{IsWithinLimit};
 ghost use Rattle.http_model.specs.Framing.{input_limit};
 ghost use Rattle.library_model.specs.State.{State};
 ghost use Rattle.catalogue_core.specs.Kept.{Keeps};
@@ -217,6 +218,7 @@ fn serve_next<R: Threads + Sync, K: Sink, D: Keeper, V: Vault, L: Ledger>(
     workers: u32,
     steps: &mut Steps<L>,
 ) -> Turn
+    requires short { length bytes.now ≤ input_limit }
     requires some { 1 ≤ workers }
     requires most { workers ≤ MOST_WORKERS }
     ensures turns { (s : State) → Keeps library.old s → Turns s bytes.now result (K.shown sink.old) (K.shown sink.new)
@@ -269,6 +271,7 @@ fn serve_import<R: Threads + Sync, K: Sink, D: Keeper, V: Vault, L: Ledger>(
     workers: u32,
     steps: &mut Steps<L>,
 ) -> Result<(), Outside>
+    requires within { IsWithinLimit file.now }
     requires some { 1 ≤ workers }
     requires most { workers ≤ MOST_WORKERS }
     ensures ok { (s : State) → Keeps library.old s → OnOk result

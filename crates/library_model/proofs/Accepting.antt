@@ -13,7 +13,7 @@ use Rattle.library_model.specs.Asked.{Asked, change, question}
 use Rattle.library_model.specs.Findings.{Finding, Finds, measured, broken_by}
 use Rattle.library_model.specs.Machine.{Verdict, Decides, DecidesCommand, accepts, stays, state_after, import_verdict, imported, new_recording, recording_reply}
 use Rattle.library_model.specs.Replies.{refusal}
-use Rattle.library_model.specs.Stands.{IsValid, HoldsFiles, HoldsFileOf}
+use Rattle.library_model.specs.Stands.{IsValid, BringsWithin, AsksWithin, HoldsFiles, HoldsFileOf}
 use Rattle.library_model.specs.State.{State, numbers_end}
 use Rattle.library_model.proofs.Imports.{imported-IsValid, HoldsFiles-imported}
 
@@ -57,16 +57,16 @@ accepted-IsImported s file reply next decides = by_finding decides.0 decides.1 d
     by_finding (measured sound summary) finds is =
         by_left sound summary (nat_le numbers_end s.next_recording || nat_le numbers_end s.next_take) finds refl is
 
--- A valid state is followed by a valid one.
-pub accepted-IsValid : (s : State) (asked : Asked) (reply : Reply) (next : State) → IsValid s
+-- A valid state is followed by a valid one, where the file that is brought is within the limit.
+pub accepted-IsValid : (s : State) (asked : Asked) (reply : Reply) (next : State) → IsValid s → AsksWithin asked
     → Decides s asked (accepts reply next) → IsValid next
-accepted-IsValid s (question about) reply next valid decides = absurd (cc decides)
-accepted-IsValid s (change request) reply next valid decides = by_command request.command decides
+accepted-IsValid s (question about) reply next valid within decides = absurd (cc decides)
+accepted-IsValid s (change request) reply next valid within decides = by_command request.command within decides
   where
-    by_command : (command : Command) → DecidesCommand s command (accepts reply next) → IsValid next
-    by_command (Import file) decides =
+    by_command : (command : Command) → BringsWithin command → DecidesCommand s command (accepts reply next) → IsValid next
+    by_command (Import file) within decides =
         let is = accepted-IsImported s file reply next decides in
-        subst IsValid (sym is.next_is) (imported-IsValid s file is.sound is.summary valid is.id_left is.take_left is.finds)
+        subst IsValid (sym is.next_is) (imported-IsValid s file is.sound is.summary valid is.id_left is.take_left within is.finds)
 
 -- Where the files of a valid state are held, and the request's own under the next take, those of the state after it are.
 pub accepted-HoldsFiles : (s : State) (request : Request) (reply : Reply) (next : State) (old new : Blobs) → IsValid s

@@ -1,8 +1,10 @@
 -- What an import does to the state, to the tables and to the files that blobs hold.
-use Rattle.std.proofs.Common.{◌≡◌, ℕ, ◌+◌, ◌<◌, Bool, true, Some, List, [], ◌∷◌, ◌++◌, map, refl, sym, ap, ◌∙◌, subst, arith, lt-ltb}
+use Rattle.std.proofs.Common.{◌≡◌, ℕ, ◌+◌, ◌<◌, Bool, true, Some, List, [], ◌∷◌, ◌++◌, map, refl, sym, ap, ◌∙◌, subst, append-nil, arith, lt-ltb}
 use Rattle.std.specs.List.{AllByRecursion}
+use Rattle.std.proofs.lemmas.List.Elements.{filter-append}
 use Rattle.lib_base.specs.declared.files.Summary.{Summary}
 use Rattle.file_model.specs.Pcm.{Pcm}
+use Rattle.sound_model.specs.Albums.{IsAlbumSummary}
 use Rattle.library_model.specs.Findings.{Finds, measured}
 use Rattle.keeper_store.specs.Blobs.{Blobs, OthersKept}
 use Rattle.keeper_store.specs.Changes.{empty_tables, changed_all}
@@ -14,10 +16,12 @@ use Rattle.keeper_store.specs.declared.row_types.SegmentRow.{SegmentRow}
 use Rattle.keeper_store.proofs.Putting.{map-put, AllByRecursion-put}
 use Rattle.library_model.specs.Machine.{imported, new_recording}
 use Rattle.std.specs.Prelude.{fold}
-use Rattle.library_model.specs.Stands.{IsValid, HoldsFiles, recording_row, segment_row, segment_rows, tables_of}
+use Rattle.library_model.specs.RowRules.{is_in_album}
+use Rattle.library_model.specs.Stands.{IsFound, IsSummed, IsValid, IsWithinLimit, HoldsFiles, album_row, measured_all, members, recording_row, reply_row, segment_row, segment_rows, tables_of}
 use Rattle.library_model.specs.InOrder.{AreInOrder, IsGiven}
-use Rattle.library_model.specs.State.{Recording, State, empty_state, numbers_end, recording_before}
+use Rattle.library_model.specs.State.{Album, Recording, State, empty_state, numbers_end, recording_before}
 use Rattle.library_model.proofs.InOrderLemmas.{AllByRecursion-unmap, AreInOrder-import, empty-AreInOrder}
+use Rattle.library_model.proofs.WorkedNames.{is_name-empty}
 
 -- ---- lists of which each element has a property
 
@@ -79,10 +83,10 @@ tables_of-imported s file sound summary valid =
       next_album = s.next_album;
       next_recording = s.next_recording + 1;
       next_take = s.next_take + 1;
-      albums = [];
+      albums = map album_row s.albums;
       recordings = rows;
       segments = segments;
-      replies = [];
+      replies = map reply_row s.replies;
     } in
     let new = new_recording s file sound summary in
     ap (λ (rows : List RecordingRow). with_rows rows (segment_rows (imported s file sound summary).recordings))
@@ -90,17 +94,33 @@ tables_of-imported s file sound summary valid =
     ∙ ap (with_rows (put recording_less (recording_row new) (map recording_row s.recordings)))
     (ap segment_rows (recordings-imported s file sound summary valid) ∙ segment_rows-push [] s.recordings new)
 
--- An import of a wave under numbers that are left keeps a state valid.
+-- Each album has the recordings that it had.
+members-imported : (id : ℕ) (s : State) (file : List ℕ) (sound : Pcm) (summary : Summary) → IsValid s
+    → members id (imported s file sound summary).recordings ≡ members id s.recordings
+members-imported id s file sound summary valid =
+    ap (members id) (recordings-imported s file sound summary valid)
+    ∙ filter-append (λ (r : Recording). is_in_album id r.album) s.recordings (new_recording s file sound summary ∷ [])
+    ∙ append-nil (members id s.recordings)
+
+-- So each still has their levels.
+summed-imported : (s : State) (file : List ℕ) (sound : Pcm) (summary : Summary) → IsValid s
+    → AllByRecursion (IsSummed (imported s file sound summary).recordings) s.albums
+summed-imported s file sound summary valid =
+    AllByRecursion-weaker (IsSummed s.recordings) (IsSummed (imported s file sound summary).recordings) s.albums
+    (λ a summed. subst (λ (rs : List Recording). IsAlbumSummary (measured_all rs) a.summary)
+    (sym (members-imported a.id s file sound summary valid)) summed) valid.summed
+
+-- An import of a file within the limit under numbers that are left keeps a state valid.
 pub imported-IsValid : (s : State) (file : List ℕ) (sound : Pcm) (summary : Summary) → IsValid s
-    → s.next_recording < numbers_end → s.next_take < numbers_end → Finds file (measured sound summary)
+    → s.next_recording < numbers_end → s.next_take < numbers_end → IsWithinLimit file → Finds file (measured sound summary)
     → IsValid (imported s file sound summary)
-imported-IsValid s file sound summary valid ids takes reads =
+imported-IsValid s file sound summary valid ids takes within reads =
     let new : Recording = new_recording s file sound summary in
     record {
       rows = subst AreInOrder (sym (tables_of-imported s file sound summary valid))
-          (AreInOrder-import (tables_of s) (recording_row new) (segment_row new) valid.rows ids takes refl refl refl);
-      files = AllByRecursion-put (λ (r : Recording). Finds r.file (measured r.sound r.summary)) recording_before new s.recordings
-          reads valid.files;
+          (AreInOrder-import (tables_of s) (recording_row new) (segment_row new) valid.rows ids takes refl refl refl is_name-empty refl);
+      files = AllByRecursion-put IsFound recording_before new s.recordings (within, reads) valid.files;
+      summed = summed-imported s file sound summary valid;
     }
 
 -- Blobs that hold another file under the next take hold the files of the state.
@@ -121,9 +141,9 @@ HoldsFiles-imported s file sound summary old new valid holds kept put_there =
 
 -- ---- the empty state
 
--- The state with no recording is valid.
+-- The empty state is valid.
 pub empty-IsValid : IsValid empty_state
-empty-IsValid = record { rows = empty-AreInOrder; files = tt }
+empty-IsValid = record { rows = empty-AreInOrder; files = tt; summed = tt }
 
 -- Its tables are the empty ones.
 pub tables_of-empty : tables_of empty_state ≡ empty_tables

@@ -1,15 +1,21 @@
 -- Tables that are in order stay so.
-use Rattle.std.proofs.Common.{◌≡◌, ◌≢◌, ◌<◌, ◌≤◌, ◌+◌, ℕ, Bool, true, false, cond, List, [], ◌∷◌, map, refl, sym, subst, arith}
+use Rattle.std.proofs.Common.{◌≡◌, ◌≢◌, ◌<◌, ◌≤◌, ◌+◌, ℕ, Bool, true, false, cond, Option, None, List, [], ◌∷◌, map, refl, sym, ap, ◌∙◌, subst, arith}
+use Rattle.std.specs.Prelude.{count_by}
 use Rattle.std.specs.List.{AllByRecursion}
-use Rattle.keeper_store.specs.Changes.{changed_all, empty_tables}
+use Rattle.std.proofs.lemmas.List.Sums.{sum_by-cons}
+use Rattle.keeper_store.specs.Changes.{changed, changed_all, empty_tables}
 use Rattle.keeper_store.specs.Puts.{put, recording_less, segments_less}
 use Rattle.keeper_store.specs.declared.contents.Change.TheVariants.{Counters, PutRecording, PutSegments}
 use Rattle.keeper_store.specs.declared.contents.Tables.{Tables}
+use Rattle.keeper_store.specs.declared.row_types.AlbumRow.{AlbumRow}
 use Rattle.keeper_store.specs.declared.row_types.RecordingRow.{RecordingRow}
 use Rattle.keeper_store.specs.declared.row_types.SegmentRow.{SegmentRow}
 use Rattle.keeper_store.specs.Orders.{recordings_in_order, segments_in_order}
 use Rattle.keeper_store.proofs.Putting.{AllByRecursion-put, AllByRecursion-weaken, Ascends-put}
-use Rattle.library_model.specs.InOrder.{AreInOrder, Differ, IsGiven}
+use Rattle.library_model.specs.declared.limits.TheConstants.{MOST_MEMBERS}
+use Rattle.library_model.specs.InOrder.{AreInOrder, Differ, IsCounter, IsGiven}
+use Rattle.library_model.specs.Names.{is_name}
+use Rattle.library_model.specs.RowRules.{album_is_there, is_in_album, member_count}
 use Rattle.library_model.specs.State.{numbers_end}
 
 -- the images have the property where each element's image has it
@@ -52,41 +58,151 @@ Differ-put row (r ∷ rows) differ other =
       differ.1,
     )
 
--- a number that was given still is where more are
-given_below : (next number : ℕ) → IsGiven next number → IsGiven (next + 1) number
-given_below next number given = (given.0, omega (arith, given.1))
+-- a put adds one at most to a count, and nothing where the row doesn't pass
+pub count_by-put : {A : Type 0} (p : A → Bool) (less : A → A → Bool) (row : A) (rows : List A)
+    → count_by p (put less row rows) ≤ cond (p row) 1 0 + count_by p rows
+count_by-put p less row [] = omega (arith, sum_by-cons (λ x. cond (p x) 1 0) row [])
+count_by-put {A} p less row (r ∷ rows) = cases (count_by-put p less row rows) (less r row) (less row r)
+  where
+    one : (x : A) (xs : List A) → count_by p (x ∷ xs) ≡ cond (p x) 1 0 + count_by p xs
+    one = sum_by-cons (λ x. cond (p x) 1 0)
 
--- Tables in order stay so where a recording and its segments come under the next numbers.
+    cases : count_by p (put less row rows) ≤ cond (p row) 1 0 + count_by p rows → (first second : Bool)
+        → count_by p (cond first (r ∷ put less row rows) (cond second (row ∷ r ∷ rows) (row ∷ rows)))
+        ≤ cond (p row) 1 0 + count_by p (r ∷ rows)
+    cases more true second = omega (arith, more, one r (put less row rows), one r rows)
+    cases more false true = omega (arith, one row (r ∷ rows))
+    cases more false false = omega (arith, one row rows, one r rows)
+
+-- ---- one change
+
+-- a number that was given still is where its counter rose
+given_below : (next later number : ℕ) → next ≤ later → IsGiven next number → IsGiven later number
+given_below next later number rose given = (given.0, omega (arith, rose, given.1))
+
+-- Tables in order stay so where counters rise, and not past their end.
+pub AreInOrder-counters : (t : Tables) (album recording take : ℕ) → AreInOrder t
+    → IsCounter album → IsCounter recording → IsCounter take
+    → t.next_album ≤ album → t.next_recording ≤ recording → t.next_take ≤ take
+    → AreInOrder (changed (Counters album recording take) t)
+AreInOrder-counters t album recording take are albums recordings takes album_rose recording_rose take_rose = record {
+  next_album = albums;
+  next_recording = recordings;
+  next_take = takes;
+  albums = are.albums;
+  recordings = are.recordings;
+  segments = are.segments;
+  replies = are.replies;
+  album_ids_given = AllByRecursion-weaken (λ (row : AlbumRow). IsGiven t.next_album row.id)
+      (λ (row : AlbumRow). IsGiven album row.id) (λ row. given_below t.next_album album row.id album_rose) t.albums are.album_ids_given;
+  ids_given = AllByRecursion-weaken (λ (row : RecordingRow). IsGiven t.next_recording row.id)
+      (λ (row : RecordingRow). IsGiven recording row.id) (λ row. given_below t.next_recording recording row.id recording_rose)
+      t.recordings are.ids_given;
+  takes_given = AllByRecursion-weaken (λ (row : RecordingRow). IsGiven t.next_take row.take)
+      (λ (row : RecordingRow). IsGiven take row.take) (λ row. given_below t.next_take take row.take take_rose) t.recordings are.takes_given;
+  segments_given = AllByRecursion-weaken (λ (row : SegmentRow). IsGiven t.next_take row.take)
+      (λ (row : SegmentRow). IsGiven take row.take) (λ row. given_below t.next_take take row.take take_rose) t.segments are.segments_given;
+  takes_differ = are.takes_differ;
+  albums_there = are.albums_there;
+  few_members = are.few_members;
+  album_names = are.album_names;
+  names = are.names;
+  tokens = are.tokens;
+  statuses = are.statuses;
+}
+
+-- Tables in order stay so where a recording is put under a take that no other names, and no album has too many then.
+pub AreInOrder-put_recording : (t : Tables) (row : RecordingRow) → AreInOrder t
+    → IsGiven t.next_recording row.id → IsGiven t.next_take row.take
+    → AllByRecursion (λ (r : RecordingRow). r.take ≢ row.take) t.recordings
+    → album_is_there row.album t.albums ≡ true → is_name row.name ≡ true
+    → AllByRecursion (λ (a : AlbumRow). member_count a.id (put recording_less row t.recordings) ≤ MOST_MEMBERS) t.albums
+    → AreInOrder (changed (PutRecording row) t)
+AreInOrder-put_recording t row are id take others album name few = record {
+  next_album = are.next_album;
+  next_recording = are.next_recording;
+  next_take = are.next_take;
+  albums = are.albums;
+  recordings = Ascends-put recording_less recordings_in_order row t.recordings are.recordings;
+  segments = are.segments;
+  replies = are.replies;
+  album_ids_given = are.album_ids_given;
+  ids_given = AllByRecursion-put (λ (r : RecordingRow). IsGiven t.next_recording r.id) recording_less row t.recordings id are.ids_given;
+  takes_given = AllByRecursion-put (λ (r : RecordingRow). IsGiven t.next_take r.take) recording_less row t.recordings take are.takes_given;
+  segments_given = are.segments_given;
+  takes_differ = Differ-put row t.recordings are.takes_differ others;
+  albums_there = AllByRecursion-put (λ (r : RecordingRow). album_is_there r.album t.albums ≡ true) recording_less row t.recordings
+      album are.albums_there;
+  few_members = few;
+  album_names = are.album_names;
+  names = AllByRecursion-put (λ (r : RecordingRow). is_name r.name ≡ true) recording_less row t.recordings name are.names;
+  tokens = are.tokens;
+  statuses = are.statuses;
+}
+
+-- Tables in order stay so where segments are put under a take that was given.
+pub AreInOrder-put_segments : (t : Tables) (row : SegmentRow) → AreInOrder t → IsGiven t.next_take row.take
+    → AreInOrder (changed (PutSegments row) t)
+AreInOrder-put_segments t row are take = record {
+  next_album = are.next_album;
+  next_recording = are.next_recording;
+  next_take = are.next_take;
+  albums = are.albums;
+  recordings = are.recordings;
+  segments = Ascends-put segments_less segments_in_order row t.segments are.segments;
+  replies = are.replies;
+  album_ids_given = are.album_ids_given;
+  ids_given = are.ids_given;
+  takes_given = are.takes_given;
+  segments_given = AllByRecursion-put (λ (r : SegmentRow). IsGiven t.next_take r.take) segments_less row t.segments take are.segments_given;
+  takes_differ = are.takes_differ;
+  albums_there = are.albums_there;
+  few_members = are.few_members;
+  album_names = are.album_names;
+  names = are.names;
+  tokens = are.tokens;
+  statuses = are.statuses;
+}
+
+-- ---- an import
+
+-- a recording in no album makes no album larger
+few_beside : (row : RecordingRow) (rows : List RecordingRow) (albums : List AlbumRow) → row.album ≡ None
+    → AllByRecursion (λ (a : AlbumRow). member_count a.id rows ≤ MOST_MEMBERS) albums
+    → AllByRecursion (λ (a : AlbumRow). member_count a.id (put recording_less row rows) ≤ MOST_MEMBERS) albums
+few_beside row rows albums none few =
+    AllByRecursion-weaken (λ (a : AlbumRow). member_count a.id rows ≤ MOST_MEMBERS)
+    (λ (a : AlbumRow). member_count a.id (put recording_less row rows) ≤ MOST_MEMBERS) (λ a. no_more a.id) albums few
+  where
+    no_more : (id : ℕ) → member_count id rows ≤ MOST_MEMBERS → member_count id (put recording_less row rows) ≤ MOST_MEMBERS
+    no_more id few =
+        let outside : is_in_album id row.album ≡ false = ap (is_in_album id) none in
+        let grown : member_count id (put recording_less row rows) ≤ cond (is_in_album id row.album) 1 0 + member_count id rows =
+        count_by-put (λ (r : RecordingRow). is_in_album id r.album) recording_less row rows in
+        let same = rw outside at grown in
+        omega (arith, few, same)
+
+-- Tables in order stay so where a recording in no album and its segments come under the next numbers.
 pub AreInOrder-import : (t : Tables) (row : RecordingRow) (segments : SegmentRow) → AreInOrder t
     → t.next_recording < numbers_end → t.next_take < numbers_end
-    → row.id ≡ t.next_recording → row.take ≡ t.next_take → segments.take ≡ t.next_take
+    → row.id ≡ t.next_recording → row.take ≡ t.next_take → row.album ≡ None → is_name row.name ≡ true → segments.take ≡ t.next_take
     → AreInOrder (changed_all (Counters t.next_album (t.next_recording + 1) (t.next_take + 1)
     ∷ PutRecording row ∷ PutSegments segments ∷ []) t)
-AreInOrder-import t row segments are ids takes id_is take_is segments_is =
+AreInOrder-import t row segments are ids takes id_is take_is album_is name segments_is =
     let low_id : 1 ≤ t.next_recording = are.next_recording.0 in
     let low_take : 1 ≤ t.next_take = are.next_take.0 in
-    record {
-      next_album = are.next_album;
-      next_recording = (omega arith, omega arith);
-      next_take = (omega arith, omega arith);
-      recordings = Ascends-put recording_less recordings_in_order row t.recordings are.recordings;
-      segments = Ascends-put segments_less segments_in_order segments t.segments are.segments;
-      ids_given = AllByRecursion-put (λ (r : RecordingRow). IsGiven (t.next_recording + 1) r.id) recording_less row t.recordings
-          (omega (arith, id_is), omega (arith, id_is))
-          (AllByRecursion-weaken (λ (r : RecordingRow). IsGiven t.next_recording r.id)
-          (λ (r : RecordingRow). IsGiven (t.next_recording + 1) r.id) (λ r given. given_below t.next_recording r.id given) t.recordings are.ids_given);
-      takes_given = AllByRecursion-put (λ (r : RecordingRow). IsGiven (t.next_take + 1) r.take) recording_less row t.recordings
-          (omega (arith, take_is), omega (arith, take_is))
-          (AllByRecursion-weaken (λ (r : RecordingRow). IsGiven t.next_take r.take)
-          (λ (r : RecordingRow). IsGiven (t.next_take + 1) r.take) (λ r given. given_below t.next_take r.take given) t.recordings are.takes_given);
-      segments_given = AllByRecursion-put (λ (r : SegmentRow). IsGiven (t.next_take + 1) r.take) segments_less segments t.segments
-          (omega (arith, segments_is), omega (arith, segments_is))
-          (AllByRecursion-weaken (λ (r : SegmentRow). IsGiven t.next_take r.take)
-          (λ (r : SegmentRow). IsGiven (t.next_take + 1) r.take) (λ r given. given_below t.next_take r.take given) t.segments are.segments_given);
-      takes_differ = Differ-put row t.recordings are.takes_differ
-          (AllByRecursion-weaken (λ (r : RecordingRow). IsGiven t.next_take r.take)
-          (λ (r : RecordingRow). r.take ≢ row.take) (λ r given same. omega (arith, given.1, same, take_is)) t.recordings are.takes_given);
-    }
+    let risen : Tables = changed (Counters t.next_album (t.next_recording + 1) (t.next_take + 1)) t in
+    let counted : AreInOrder risen =
+    AreInOrder-counters t t.next_album (t.next_recording + 1) (t.next_take + 1) are are.next_album
+    (omega arith, omega arith) (omega arith, omega arith) (omega arith) (omega arith) (omega arith) in
+    let others : AllByRecursion (λ (r : RecordingRow). r.take ≢ row.take) t.recordings =
+    AllByRecursion-weaken (λ (r : RecordingRow). IsGiven t.next_take r.take)
+    (λ (r : RecordingRow). r.take ≢ row.take) (λ r given same. omega (arith, given.1, same, take_is)) t.recordings are.takes_given in
+    let there : album_is_there row.album t.albums ≡ true = ap (λ (a : Option ℕ). album_is_there a t.albums) album_is in
+    let put_in : AreInOrder (changed (PutRecording row) risen) =
+    AreInOrder-put_recording risen row counted (omega (arith, id_is), omega (arith, id_is)) (omega (arith, take_is), omega (arith, take_is))
+    others there name (few_beside row t.recordings t.albums album_is are.few_members) in
+    AreInOrder-put_segments (changed (PutRecording row) risen) segments put_in (omega (arith, segments_is), omega (arith, segments_is))
 
 -- The empty tables are in order.
 pub empty-AreInOrder : AreInOrder empty_tables
@@ -94,10 +210,19 @@ empty-AreInOrder = record {
   next_album = (omega arith, omega arith);
   next_recording = (omega arith, omega arith);
   next_take = (omega arith, omega arith);
+  albums = tt;
   recordings = tt;
   segments = tt;
+  replies = tt;
+  album_ids_given = tt;
   ids_given = tt;
   takes_given = tt;
   segments_given = tt;
   takes_differ = tt;
+  albums_there = tt;
+  few_members = tt;
+  album_names = tt;
+  names = tt;
+  tokens = tt;
+  statuses = tt;
 }

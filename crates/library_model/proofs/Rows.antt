@@ -56,7 +56,15 @@ row_rounded = refl
 
 -- The recording that it becomes as the first one.
 abbrev pub row_recording : Recording
-row_recording = record { id = 1; take = 1; file = four_frames 1; sound = row_sound; summary = row_summary }
+row_recording = record {
+  id = 1;
+  album = None;
+  name = [];
+  take = 1;
+  file = four_frames 1;
+  sound = row_sound;
+  summary = row_summary;
+}
 
 -- The file is found to be that sound, with those levels.
 pub row_file-Finds : Finds row_recording.file (measured row_recording.sound row_recording.summary)
@@ -101,7 +109,7 @@ refusal-keeper = refl
 -- The first import is accepted as recording 1.
 pub import_verdict-accepts : import_verdict empty_state (four_frames 1) (measured row_sound row_summary)
     ≡ accepts (json 201 (codes "{\"channels\":1,\"depth\":16,\"frames\":4,\"gain\":null,\"id\":1,\"loudness\":null,\"momentary\":null,\"peak\":\"0.537233\",\"range\":null,\"short\":null,\"true_peak\":-540}"))
-    (record { next_album = 1; next_recording = 2; next_take = 2; recordings = row_recording ∷ [] })
+    (record empty_state { next_recording = 2; next_take = 2; recordings = row_recording ∷ [] })
 unfolding serde_json_on_literals digits millionths
 import_verdict-accepts = refl
 
@@ -135,7 +143,7 @@ import_verdict-broken = refl
 
 -- A state whose next recording would have the number at the end.
 abbrev pub row_full : State
-row_full = record { next_album = 1; next_recording = 2147483647; next_take = 1; recordings = [] }
+row_full = record empty_state { next_recording = 2147483647 }
 
 -- No number is left there.
 pub import_verdict-full : import_verdict row_full (four_frames 1) (measured row_sound row_summary)
@@ -145,8 +153,7 @@ import_verdict-full = refl
 -- The state before it has one number left.
 pub import_verdict-last : import_verdict (record row_full { next_recording = 2147483646 }) (four_frames 1) (measured row_sound row_summary)
     ≡ accepts (json 201 (codes "{\"channels\":1,\"depth\":16,\"frames\":4,\"gain\":null,\"id\":2147483646,\"loudness\":null,\"momentary\":null,\"peak\":\"0.537233\",\"range\":null,\"short\":null,\"true_peak\":-540}"))
-    (record {
-      next_album = 1;
+    (record empty_state {
       next_recording = 2147483647;
       next_take = 2;
       recordings = record row_recording { id = 2147483646 } ∷ [];

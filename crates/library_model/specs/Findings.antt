@@ -1,6 +1,9 @@
 -- What an imported file is found to be, and the levels that are measured of it.
-use Rattle.std.specs.Prelude.{ℕ, List}
+use Rattle.std.specs.Prelude.{ℕ, List, unwrap_or}
+use Rattle.lib_base.specs.Kinds.{kind_named}
 use Rattle.lib_base.specs.declared.outcomes.Rule.{Rule}
+use Rattle.lib_base.specs.declared.files.Kind.{Kind}
+use Rattle.lib_base.specs.declared.files.Kind.TheVariants.{Wave}
 use Rattle.lib_base.specs.declared.files.Measured.{Measured}
 use Rattle.lib_base.specs.declared.files.Summary.{Summary}
 use Rattle.file_model.specs.Pcm.{Pcm}
@@ -10,6 +13,10 @@ use Rattle.sound_model.specs.Peaks.{peak_of}
 use Rattle.sound_model.specs.Segments.{energies}
 use Rattle.sound_model.specs.Summaries.{Summarises}
 use Rattle.sound_model.specs.Summaries as summaries
+
+-- the kind of a file, as its first four bytes name it: FLAC where they are `fLaC` (RFC 9639 section 6), and else a wave
+abbrev pub kind_of : List ℕ → Kind
+kind_of file = unwrap_or (kind_named file) Wave
 
 -- what is measured of a sound
 abbrev pub measured_of : Pcm → Measured

@@ -1,10 +1,15 @@
--- Which tables are in order: the rules of rows that speak of numbers alone.
-use Rattle.std.specs.Prelude.{◌≢◌, ◌<◌, ◌≤◌, ℕ, List, [], ◌∷◌, map, ⊤}
+-- Which tables are in order: the rules of rows that speak of numbers, names, tokens and statuses alone.
+use Rattle.std.specs.Prelude.{◌≡◌, ◌≢◌, ◌<◌, ◌≤◌, ◌⊎◌, ℕ, true, List, [], ◌∷◌, map, ⊤}
 use Rattle.std.specs.List.{AllByRecursion}
-use Rattle.keeper_store.specs.Puts.{Ascends, recording_less, segments_less}
+use Rattle.keeper_store.specs.Puts.{Ascends, album_less, recording_less, segments_less, reply_less}
 use Rattle.keeper_store.specs.declared.contents.Tables.{Tables}
+use Rattle.keeper_store.specs.declared.row_types.AlbumRow.{AlbumRow}
 use Rattle.keeper_store.specs.declared.row_types.RecordingRow.{RecordingRow}
 use Rattle.keeper_store.specs.declared.row_types.SegmentRow.{SegmentRow}
+use Rattle.keeper_store.specs.declared.row_types.ReplyRow.{ReplyRow}
+use Rattle.library_model.specs.declared.limits.TheConstants.{MOST_MEMBERS}
+use Rattle.library_model.specs.Names.{is_name, is_token}
+use Rattle.library_model.specs.RowRules.{album_is_there, member_count}
 use Rattle.library_model.specs.State.{numbers_end}
 
 -- no number stands twice
@@ -20,15 +25,29 @@ IsGiven next number = (1 ≤ number) × (number < next)
 abbrev pub IsCounter : ℕ → Type 0
 IsCounter next = (1 ≤ next) × (next ≤ numbers_end)
 
--- The counters are from 1 to their end. Recordings ascend by their ids and segments by their takes, which their counters
--- gave, and no two recordings name one take.
+-- the statuses of replies that are kept: those of changes that were made
+abbrev pub IsKeptStatus : ℕ → Type 0
+IsKeptStatus status = (status ≡ 200) ⊎ (status ≡ 201)
+
+-- The counters are from 1 to their end. Albums and recordings ascend by their ids, segments by their takes, which their counters gave,
+-- and kept replies by their tokens. No two recordings name one take, the album that a recording names is there, and none has too many.
+-- Names and tokens have their form, and statuses are kept ones.
 pub record AreInOrder (t : Tables) : Type 0 where
   pub next_album : IsCounter t.next_album
   pub next_recording : IsCounter t.next_recording
   pub next_take : IsCounter t.next_take
+  pub albums : Ascends album_less t.albums
   pub recordings : Ascends recording_less t.recordings
   pub segments : Ascends segments_less t.segments
+  pub replies : Ascends reply_less t.replies
+  pub album_ids_given : AllByRecursion (λ (row : AlbumRow). IsGiven t.next_album row.id) t.albums
   pub ids_given : AllByRecursion (λ (row : RecordingRow). IsGiven t.next_recording row.id) t.recordings
   pub takes_given : AllByRecursion (λ (row : RecordingRow). IsGiven t.next_take row.take) t.recordings
   pub segments_given : AllByRecursion (λ (row : SegmentRow). IsGiven t.next_take row.take) t.segments
   pub takes_differ : Differ (map (λ (row : RecordingRow). row.take) t.recordings)
+  pub albums_there : AllByRecursion (λ (row : RecordingRow). album_is_there row.album t.albums ≡ true) t.recordings
+  pub few_members : AllByRecursion (λ (row : AlbumRow). member_count row.id t.recordings ≤ MOST_MEMBERS) t.albums
+  pub album_names : AllByRecursion (λ (row : AlbumRow). is_name row.name ≡ true) t.albums
+  pub names : AllByRecursion (λ (row : RecordingRow). is_name row.name ≡ true) t.recordings
+  pub tokens : AllByRecursion (λ (row : ReplyRow). is_token row.token ≡ true) t.replies
+  pub statuses : AllByRecursion (λ (row : ReplyRow). IsKeptStatus row.status) t.replies

@@ -1,5 +1,5 @@
 -- The library as a machine: how it answers a request, and where it goes from there.
-use Rattle.std.specs.Prelude.{◌≡◌, ◌+◌, ◌||◌, ◌==◌, ℕ, List, nat_le, Option, None, Some, if◌then◌else◌, ⊤}
+use Rattle.std.specs.Prelude.{◌≡◌, ◌+◌, ◌||◌, ◌==◌, ℕ, List, [], nat_le, Option, None, Some, if◌then◌else◌, ⊤}
 use Rattle.std.specs.List.{find}
 use Rattle.lib_base.specs.declared.files.Summary.{Summary}
 use Rattle.file_model.specs.Pcm.{Pcm}
@@ -26,11 +26,19 @@ pub data Verdict : Type 0 where
 abbrev pub recording_reply : ℕ → Recording → Reply
 recording_reply status r = row_reply status (recording_row r)
 
--- the recording that an import makes, under the next numbers
+-- the recording that an import makes, under the next numbers: it is in no album and has the empty name
 abbrev pub new_recording : State → List ℕ → Pcm → Summary → Recording
-new_recording s file sound summary = record { id = s.next_recording; take = s.next_take; file = file; sound = sound; summary = summary }
+new_recording s file sound summary = record {
+  id = s.next_recording;
+  album = None;
+  name = [];
+  take = s.next_take;
+  file = file;
+  sound = sound;
+  summary = summary;
+}
 
--- the state after an import
+-- the state after an import; albums and kept replies are as they were
 abbrev pub imported : State → List ℕ → Pcm → Summary → State
 imported s file sound summary = record s {
   next_recording = s.next_recording + 1;

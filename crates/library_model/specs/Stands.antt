@@ -1,22 +1,59 @@
 -- What tables and blobs stand for.
-use Rattle.std.specs.Prelude.{◌≡◌, ℕ, List, [], Option, None, Some, map, fold}
+use Rattle.std.specs.Prelude.{◌≡◌, ◌≤◌, ℕ, List, [], ◌∷◌, length, Option, Some, map, filter, fold, ⊤}
 use Rattle.std.specs.List.{AllByRecursion}
 use Rattle.md5.specs.Md5.{md5}
 use Rattle.lib_base.specs.declared.files.Kind.{Kind}
-use Rattle.lib_base.specs.declared.files.Kind.TheVariants.{Wave}
 use Rattle.lib_base.specs.declared.files.Measured.{Measured}
 use Rattle.lib_base.specs.declared.files.Summary.{Summary}
 use Rattle.keeper_store.specs.Blobs.{Blobs}
 use Rattle.keeper_store.specs.declared.contents.Tables.{Tables}
+use Rattle.keeper_store.specs.declared.row_types.AlbumRow.{AlbumRow}
 use Rattle.keeper_store.specs.declared.row_types.RecordingRow.{RecordingRow}
 use Rattle.keeper_store.specs.declared.row_types.SegmentRow.{SegmentRow}
+use Rattle.keeper_store.specs.declared.row_types.ReplyRow.{ReplyRow}
 use Rattle.keeper_store.specs.EnergyBytes.{row_bytes}
 use Rattle.keeper_store.specs.Puts.{put, segments_less}
+use Rattle.sound_model.specs.Albums.{IsAlbumSummary}
+use Rattle.library_model.specs.declared.limits.TheConstants.{MOST_BODY_BYTES}
 use Rattle.library_model.specs.declared.messages.Command.{Command}
 use Rattle.library_model.specs.declared.messages.Command.TheVariants.{Import}
-use Rattle.library_model.specs.Findings.{Finds, measured, measured_of}
+use Rattle.library_model.specs.Asked.{Asked, change, question}
+use Rattle.library_model.specs.Findings.{Finds, kind_of, measured, measured_of}
 use Rattle.library_model.specs.InOrder.{AreInOrder}
-use Rattle.library_model.specs.State.{Recording, State}
+use Rattle.library_model.specs.RowRules.{is_in_album}
+use Rattle.library_model.specs.State.{Album, Kept, Recording, State}
+
+-- ---- albums and their recordings
+
+-- the recordings in an album, in ascending order of id
+abbrev pub members : ℕ → List Recording → List Recording
+members id recordings = filter (λ (r : Recording). is_in_album id r.album) recordings
+
+-- what is measured of recordings
+abbrev pub measured_all : List Recording → List Measured
+measured_all recordings = map (λ (r : Recording). measured_of r.sound) recordings
+
+-- an album has the levels of its recordings
+abbrev pub IsSummed : List Recording → Album → Type 0
+IsSummed recordings album = IsAlbumSummary (measured_all (members album.id recordings)) album.summary
+
+-- The second albums are the first with the levels of these recordings: each has the id and the name that it had.
+abbrev pub Resums : List Recording → List Album → List Album → Type 0
+Resums recordings [] [] = ⊤
+Resums recordings [] (next ∷ nexts) = ⊥
+Resums recordings (album ∷ albums) [] = ⊥
+Resums recordings (album ∷ albums) (next ∷ nexts) =
+    (next.id ≡ album.id) × (next.name ≡ album.name) × IsSummed recordings next × Resums recordings albums nexts
+
+-- ---- the tables of a state
+
+-- the row of an album; only this word writes such a row
+abbrev pub album_row : Album → AlbumRow
+album_row a = record { id = a.id; name = a.name; summary = a.summary }
+
+-- the row of a kept reply; only this word writes such a row
+abbrev pub reply_row : Kept → ReplyRow
+reply_row k = record { token = k.token; mark = k.mark; status = k.status; body = k.body }
 
 -- The row of a recording: its id, the album that it is in, its name, its take, and the MD5 of its file (RFC 1321), beside its
 -- channels, the bits of a sample, and its levels. Only this word writes such a row.
@@ -33,9 +70,9 @@ row_of id album name take kind digest m summary = record {
   summary = summary;
 }
 
--- the row of a recording: one of a wave file, in no album, with no name
+-- the row of a recording
 abbrev pub recording_row : Recording → RecordingRow
-recording_row r = row_of r.id None [] r.take Wave (md5 r.file) (measured_of r.sound) r.summary
+recording_row r = row_of r.id r.album r.name r.take (kind_of r.file) (md5 r.file) (measured_of r.sound) r.summary
 
 -- the row of the energies of a take's segments, 11 bytes each; only this word writes such a row
 abbrev pub segments_of : ℕ → Measured → SegmentRow
@@ -55,20 +92,41 @@ tables_of s = record {
   next_album = s.next_album;
   next_recording = s.next_recording;
   next_take = s.next_take;
-  albums = [];
+  albums = map album_row s.albums;
   recordings = map recording_row s.recordings;
   segments = segment_rows s.recordings;
-  replies = [];
+  replies = map reply_row s.replies;
 }
 
--- A state is valid: its tables are in order, and each file reads as its sound, which has its levels.
+-- ---- what tables and blobs stand for
+
+-- a file is no longer than the body of a request may be
+abbrev pub IsWithinLimit : List ℕ → Type 0
+IsWithinLimit file = length file ≤ MOST_BODY_BYTES
+
+-- a recording's file is within the limit, and reads as its sound, which has its levels
+abbrev pub IsFound : Recording → Type 0
+IsFound r = IsWithinLimit r.file × Finds r.file (measured r.sound r.summary)
+
+-- A state is valid: its tables are in order, each file reads as its sound, which has its levels, and each album has the levels of its
+-- recordings.
 pub record IsValid (s : State) : Type 0 where
   pub rows : AreInOrder (tables_of s)
-  pub files : AllByRecursion (λ (r : Recording). Finds r.file (measured r.sound r.summary)) s.recordings
+  pub files : AllByRecursion IsFound s.recordings
+  pub summed : AllByRecursion (IsSummed s.recordings) s.albums
 
 -- the file of each recording is kept under its take
 abbrev pub HoldsFiles : Blobs → List Recording → Type 0
 HoldsFiles blobs recordings = AllByRecursion (λ (r : Recording). blobs r.take ≡ Some r.file) recordings
+
+-- the file that a command brings, where it brings one, is within the limit
+abbrev pub BringsWithin : Command → Type 0
+BringsWithin (Import file) = IsWithinLimit file
+
+-- so is that of what is asked
+abbrev pub AsksWithin : Asked → Type 0
+AsksWithin (change request) = BringsWithin request.command
+AsksWithin (question about) = ⊤
 
 -- the key holds the file that a command brings, where it brings one
 abbrev pub HoldsFileOf : Command → ℕ → Blobs → Type 0

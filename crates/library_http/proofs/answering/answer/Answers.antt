@@ -8,7 +8,7 @@ returns-in-Ok-Ready-clause-acts g c = λ s keeps.
     Acts-committed s c.args.request c.in-Ok-Ready.ready c.commit.result _ c.args.library.now c.stage.new.library c.commit.new.library
     (g.D.Keeper.shown c.args.keeper.now) (g.D.Keeper.shown c.commit.new.keeper)
     (g.V.Vault.shown c.args.vault.now) (g.V.Vault.shown c.stage.new.vault)
-    keeps c.stage.ensures.stages prepares put c.commit.ensures.commits
+    keeps c.requires.within c.stage.ensures.stages prepares put c.commit.ensures.commits
 
 pub returns-in-Ok-Refused-clause-acts : goal.returns-in-Ok-Refused-clause-acts
 returns-in-Ok-Refused-clause-acts g c = λ s keeps.
