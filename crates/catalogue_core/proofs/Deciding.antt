@@ -4,6 +4,8 @@ use Rattle.lib_base.specs.declared.outcomes.Rule.{Rule}
 use Rattle.lib_base.specs.Faults.{Rose}
 use Rattle.lib_base.specs.declared.files.Measured.{Measured}
 use Rattle.lib_base.specs.declared.files.Summary.{Summary}
+use Rattle.sound_model.specs.Albums.{SummarisesMeasured}
+use Rattle.album_merge.specs.Tallies.{Tallied}
 use Rattle.file_model.specs.Pcm.{Pcm}
 use Rattle.file_model.specs.Reading.{Reads, accepted}
 use Rattle.keeper_store.specs.Changes.{next_numbers}
@@ -115,9 +117,11 @@ StagedFrom-sound s file sound summary before now (Ready p) valid finds stages =
     Prepares-import s file sound summary p valid finds stages.0 stages.1
 
 -- so of an accepted file
-pub StagedFrom-accepted : (s : State) (file : List ℕ) (sound : Pcm) (m : Measured) (summary : Summary) (before now : ℕ) (staged : Staged)
-    → IsValid s → Reads file (accepted sound) → IsMeasuredOf sound m summary
-    → StagesAccepted (next_numbers (tables_of s)) file m summary before now staged → StagedFrom s (import_of file) before now staged
-StagedFrom-accepted s file sound m summary before now staged valid reads are stages =
+pub StagedFrom-accepted : (s : State) (file : List ℕ) (sound : Pcm) (m : Measured) (tally : Tallied) (before now : ℕ) (staged : Staged)
+    → IsValid s → Reads file (accepted sound) → IsMeasuredOf sound m tally
+    → StagesAccepted (next_numbers (tables_of s)) file m tally.summary before now staged → StagedFrom s (import_of file) before now staged
+StagedFrom-accepted s file sound m tally before now staged valid reads are stages =
+    let summary = tally.summary in
     let Stages : Measured → Type 0 = λ m. StagesAccepted (next_numbers (tables_of s)) file m summary before now staged in
-    StagedFrom-sound s file sound summary before now staged valid (reads, are.levels) (subst Stages are.measured_is stages)
+    let levels = subst (λ (m : Measured). SummarisesMeasured m summary) are.measured_is are.stands.summary in
+    StagedFrom-sound s file sound summary before now staged valid (reads, levels) (subst Stages are.measured_is stages)

@@ -1,45 +1,20 @@
--- What is measured of a wave file is small enough for its levels to be taken.
-use Rattle.std.proofs.Common.{◌≡◌, ◌∙◌, ◌≤◌, ◌<◌, ◌*◌, ◌/◌, ◌^◌, ℕ, zero, suc, List, [], length, codes, ap, arith}
-use Rattle.file_model.specs.Chunks.{Chunk}
-use Rattle.file_model.specs.Pcm.{Pcm, interleaved}
-use Rattle.file_model.specs.Wave.{IsWaveOf}
-use Rattle.file_model.proofs.Interleaving.{length-interleaved}
-use Rattle.file_model.proofs.Makes.{content_named}
-use Rattle.file_model.proofs.Samples.{AreBytes, length-bytes}
-use Rattle.file_model.proofs.Waves.{chunks_of_wave, size_positive}
+-- What is measured of a file within the limit is within its bounds.
+use Rattle.std.proofs.Common.{◌≡◌, List, ℕ}
+use Rattle.file_model.specs.Pcm.{Pcm}
+use Rattle.file_model.specs.Reading.{Reads, accepted}
+use Rattle.sound_model.specs.Summaries.{IsWithinBounds}
 use Rattle.sound_model.proofs.EnergyBounds.{length-energies, energies_within}
 use Rattle.sound_model.proofs.PeakBounds.{peak_of_within}
 use Rattle.library_model.specs.Findings.{measured_of}
-use Rattle.catalogue_core.specs.Examining.{IsSummable}
+use Rattle.library_model.specs.Stands.{IsWithinLimit}
+use Rattle.library_model.proofs.WaveFiles.{frames_within}
 
-within_product : (a n : ℕ) → 0 < a → n ≤ a * n
-within_product zero n some = absurd (omega (arith, some))
-within_product (suc a) n some = omega arith
-
--- a sound's frames are fewer than the bytes that its samples take, which a chunk's length field can say
-frames_fit : (bytes : List ℕ) (chunks : List Chunk) (sound : Pcm) → AreBytes bytes → IsWaveOf bytes chunks sound → sound.frames < 2 ^ 32
-frames_fit bytes chunks sound are wave =
-    let begins = chunks_of_wave bytes chunks sound wave in
-    let content = content_named bytes chunks (codes "data") wave.data_chunk [] are begins wave.one_data in
-    let known = wave.is_format.depth_known in
-    let count = length sound.lists * sound.frames in
-    let long : length wave.data_chunk.content ≡ sound.depth / 8 * count =
-    ap length wave.samples ∙ length-bytes sound.depth (interleaved sound.frames sound.lists) known
-    ∙ ap (λ (n : ℕ). sound.depth / 8 * n) (length-interleaved sound.frames sound.lists) in
-    let each = within_product (length sound.lists) sound.frames wave.is_sound.has_channel in
-    let all = within_product (sound.depth / 8) count (size_positive sound.depth known) in
-    omega (arith, each, all, long, content.short)
-
-few_segments : (frames count : ℕ) → count ≡ frames / 4800 → frames < 2 ^ 32 → count ≤ 2 ^ 25
-few_segments frames count is fit = omega (arith, is, fit)
-
-pub wave_summable : (bytes : List ℕ) (chunks : List Chunk) (sound : Pcm) → AreBytes bytes → IsWaveOf bytes chunks sound
-    → IsSummable (measured_of sound)
-wave_summable bytes chunks sound are wave =
-    let is = wave.is_sound in
+pub measured_within : (file : List ℕ) (sound : Pcm) → Reads file (accepted sound) → IsWithinLimit file → IsWithinBounds (measured_of sound)
+measured_within file sound reads within =
+    let is = reads.1.is_sound in
     record {
-      segments = energies_within sound.depth sound.frames sound.lists is.has_channel is.few_channels;
-      few =
-          few_segments sound.frames _ (length-energies sound.depth sound.frames sound.lists) (frames_fit bytes chunks sound are wave);
+      frames = frames_within file sound reads within;
+      count = length-energies sound.depth sound.frames sound.lists;
+      energies = energies_within sound.depth sound.frames sound.lists is.has_channel is.few_channels;
       peak = peak_of_within sound.depth sound.frames sound.lists is.least_depth is.greatest_depth is.within;
     }

@@ -3,15 +3,13 @@ ghost use Rattle.std.specs.Prelude.{◌≡◌, ◌≤◌, IfOk};
 ghost use Rattle.file_model.specs.Pcm.{Pcm};
 ghost use Rattle.file_model.specs.Wave.{IsWave};
 ghost use Rattle.measure_pool.specs.declared.plans.TheConstants.{MOST_WORKERS};
-ghost use Rattle.sound_model.specs.Blocks.{blocks_of, windows_of};
-ghost use Rattle.sound_model.specs.Summaries.{Summarises};
 ghost use Rattle.wave_chunks.specs.Answers.{IsReadOf};
-ghost use Rattle.catalogue_core.specs.Examining.{IsFound, IsSummable};
+ghost use Rattle.catalogue_core.specs.Examining.{IsFound};
 ghost use Rattle.library_model.specs.Findings.{measured_of};
+ghost use Rattle.library_model.specs.Stands.{IsWithinLimit};
 
-use album_merge::summarise;
-use gate_blocks::{blocks, windows};
-use lib_base::{Broken, Measured, Memory, Refused, Summary};
+use album_merge::TrackTally;
+use lib_base::{Broken, Measured, Memory, Refused};
 use measure_pool::{Gate, measure};
 use std::alloc::Global;
 use std::thread::Threads;
@@ -20,8 +18,8 @@ use wave_chunks::{Wave, WaveSound};
 /// What a file is found to be.
 #[derive(Debug, Drop)]
 pub enum Examined {
-    /// A file that the library accepts: what is measured of its sound, and the levels of that.
-    Accepted(Measured, Summary),
+    /// A file that the library accepts: what is measured of its sound, and the tally of that.
+    Accepted(Measured, TrackTally),
     /// A file that breaks a rule.
     Broken(Broken),
 }
@@ -34,6 +32,7 @@ pub fn examine<R: Threads + Sync, G: Gate>(
     workers: u32,
     gate: &G,
 ) -> Result<Examined, Memory>
+    requires within { IsWithinLimit file.now }
     requires some { 1 ≤ workers }
     requires most { workers ≤ MOST_WORKERS }
     ensures { IfOk result (λ found. IsFound file.now found) }
@@ -41,8 +40,8 @@ pub fn examine<R: Threads + Sync, G: Gate>(
     match wave_chunks::read(alloc, file) {
         Ok(wave) => {
             let measured = measure_wave(rt, alloc, file, &wave, workers, gate)?;
-            let summary = summary_of(alloc, &measured)?;
-            Ok(Examined::Accepted(measured, summary))
+            let tally = TrackTally::make(rt, alloc, &measured)?;
+            Ok(Examined::Accepted(measured, tally))
         }
         Err(Refused::Broken(fault)) => Ok(Examined::Broken(fault)),
         Err(Refused::Memory) => Err(Memory),
@@ -64,21 +63,4 @@ fn measure_wave<R: Threads + Sync, G: Gate>(
     ensures { IfOk result (λ measured. (sound : Pcm) → IsWave file.now sound → measured ≡ measured_of sound) }
 {
     measure(rt, alloc, &WaveSound::over(file, wave), workers, gate)
-}
-
-/// The levels of what is measured of a sound.
-fn summary_of(alloc: Global, measured: &Measured) -> Result<Summary, Memory>
-    requires { IsSummable measured.now }
-    ensures { IfOk result (Summarises measured.now.frames (blocks_of measured.now.energies)
-        (windows_of measured.now.energies) measured.now.peak) }
-{
-    let blocks = blocks(alloc, measured.energies.as_slice())?;
-    let windows = windows(alloc, measured.energies.as_slice())?;
-    summarise(
-        alloc,
-        measured.frames,
-        blocks.as_slice(),
-        windows.as_slice(),
-        measured.peak,
-    )
 }

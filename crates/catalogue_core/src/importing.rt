@@ -8,6 +8,7 @@ ghost use Rattle.catalogue_core.specs.Committing.{Fits};
 ghost use Rattle.catalogue_core.specs.Kept.{Holds, numbers_of};
 
 use crate::{Library, Prepared};
+use album_merge::TrackTally;
 use json_bodies::{describe_row, refuse};
 use keeper_store::{Batch, Change, NextNumbers, RecordingRow, Rows, SegmentRow, Tables, bytes_of};
 use lib_base::{Kind, Measured, Memory, Summary, Text, kind_of};
@@ -15,26 +16,26 @@ use library_model::Refusal;
 use md5::{Digest, Md5};
 use std::alloc::Global;
 
-/// Prepares the import of a file of which that is measured, with its levels, and makes room for it.
+/// Prepares the import of a file of which that is measured, with its tally, and makes room for it.
 /// It takes all the memory that the import wants.
 pub fn prepare_import(
     library: &mut Library,
     file: &[u8],
     measured: &Measured,
-    summary: Summary,
+    tally: TrackTally,
 ) -> Result<Prepared, Memory>
     requires left { lacks_numbers (numbers_of library.old) ≡ false }
     requires energies { AreEnergies measured.now.energies }
     ensures held { (t : Tables) → Holds library.old t → Holds library.new t }
     ensures numbers { numbers_of library.new ≡ numbers_of library.old }
-    ensures prepares { IfOk result (PreparesImport (numbers_of library.old) file.now measured.now summary) }
+    ensures prepares { IfOk result (PreparesImport (numbers_of library.old) file.now measured.now tally.summary) }
     ensures fits { IfOk result (Fits library.new) }
 {
     let alloc = library.alloc;
     // `commit` wants room for as many rows as the batch has changes: in each table, whatever they put.
     library.rows.reserve(3)?;
     let next = library.rows.next_numbers();
-    let row = new_row(alloc, next, file, measured, summary);
+    let row = new_row(alloc, next, file, measured, tally.summary());
     let segments = segment_row(alloc, next.take, measured)?;
     let reply = describe_row(alloc, 201, &row)?;
     // `commit` takes no memory, so both refusals that it may answer are made here

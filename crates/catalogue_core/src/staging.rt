@@ -1,6 +1,7 @@
 //! Deciding a request, and taking all that accepting it wants.
 ghost use Rattle.std.specs.Prelude.{◌≡◌, ◌≤◌, IfOk};
 ghost use Rattle.keeper_store.specs.EnergyBytes.{AreEnergies};
+ghost use Rattle.library_model.specs.Stands.{BringsWithin, IsWithinLimit};
 ghost use Rattle.library_model.specs.State.{State};
 ghost use Rattle.measure_pool.specs.declared.plans.TheConstants.{MOST_WORKERS};
 ghost use Rattle.catalogue_core.specs.Causes.{StagesBy};
@@ -11,9 +12,10 @@ ghost use Rattle.catalogue_core.specs.Staging.{StagedFrom, Stages, LeavesUnlessF
 use crate::examining::{Examined, examine};
 use crate::importing::prepare_import;
 use crate::{Library, Staged};
+use album_merge::TrackTally;
 use json_bodies::{refuse, refuse_format};
 use keeper_store::{NextNumbers, Vault};
-use lib_base::{Bytes, Measured, Memory, Outside, Steps, Summary};
+use lib_base::{Bytes, Measured, Memory, Outside, Steps};
 use library_model::{Command, Refusal, Request};
 use measure_pool::Gate;
 use std::sync::ledger::Ledger;
@@ -36,6 +38,7 @@ pub fn stage<R: Threads + Sync, V: Vault, G: Gate, L: Ledger>(
     gate: &G,
     steps: &mut Steps<L>,
 ) -> Result<Staged, Memory>
+    requires within { BringsWithin request.command }
     requires some { 1 ≤ workers }
     requires most { workers ≤ MOST_WORKERS }
     ensures staged { (s : State) → Keeps library.old s
@@ -60,6 +63,7 @@ fn stage_import<R: Threads + Sync, V: Vault, G: Gate>(
     workers: u32,
     gate: &G,
 ) -> Result<Staged, Memory>
+    requires within { IsWithinLimit file }
     requires some { 1 ≤ workers }
     requires most { workers ≤ MOST_WORKERS }
     ensures staged { (s : State) → Keeps library.old s
@@ -70,8 +74,8 @@ fn stage_import<R: Threads + Sync, V: Vault, G: Gate>(
 {
     match examine(rt, library.alloc, file.as_slice(), workers, gate)? {
         Examined::Broken(fault) => Ok(Staged::Refused(refuse_format(library.alloc, fault)?)),
-        Examined::Accepted(measured, summary) => {
-            stage_accepted(library, file.as_slice(), &measured, summary, vault)
+        Examined::Accepted(measured, tally) => {
+            stage_accepted(library, file.as_slice(), &measured, tally, vault)
         }
     }
 }
@@ -81,11 +85,11 @@ fn stage_accepted<V: Vault>(
     library: &mut Library,
     file: &[u8],
     measured: &Measured,
-    summary: Summary,
+    tally: TrackTally,
     vault: &mut V,
 ) -> Result<Staged, Memory>
     requires { AreEnergies measured.now.energies }
-    ensures accepted { IfOk result (StagesAccepted (numbers_of library.old) file.now measured.now summary
+    ensures accepted { IfOk result (StagesAccepted (numbers_of library.old) file.now measured.now tally.summary
         (V.shown vault.old).faults (V.shown vault.new).faults) }
     ensures stages { Stages (Command.Import file.now) library.old library.new (V.shown vault.old) (V.shown vault.new) result }
     ensures causes { StagesBy (V.shown vault.old).faults (V.shown vault.new).faults result }
@@ -96,7 +100,7 @@ fn stage_accepted<V: Vault>(
     if lacks_numbers(next) {
         return Ok(Staged::Refused(refuse(alloc, Refusal::Ids)?));
     }
-    let ready = prepare_import(library, file, measured, summary)?;
+    let ready = prepare_import(library, file, measured, tally)?;
     // made before the vault is called: so no fault stands behind want of memory
     let vault_refusal = refuse(alloc, Refusal::Vault)?;
     match vault.put(next.take, file) {

@@ -6,8 +6,10 @@
 #![tactic(auto)]
 
 mod looking;
+mod opening;
 mod rows;
 #[cfg(test)]
 mod tests;
 
+pub use opening::{NotOpened, open_rows};
 pub use rows::CatalogueRows;

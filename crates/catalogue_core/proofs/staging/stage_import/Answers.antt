@@ -18,6 +18,6 @@ returns-clause-staged g c = λ s keeps.
     let stages = rw (c.as_slice-in-Accepted.ensures, keeps.rows.numbers) at c.stage_accepted.ensures.accepted in
     let before = (g.V.Vault.shown c.args.vault.now).faults in
     let now = (g.V.Vault.shown c.stage_accepted.new.vault).faults in
-    IfOk-weaker c.stage_accepted.result (StagesAccepted (next_numbers (tables_of s)) c.args.file c.in-Accepted.measured c.in-Accepted.summary before now)
+    IfOk-weaker c.stage_accepted.result (StagesAccepted (next_numbers (tables_of s)) c.args.file c.in-Accepted.measured c.in-Accepted.tally.summary before now)
     (StagedFrom s (record { command = Import c.args.file }) before now)
-    (λ staged h. StagedFrom-accepted s c.args.file found.0 c.in-Accepted.measured c.in-Accepted.summary before now staged keeps.valid found.1 found.2 h) stages
+    (λ staged h. StagedFrom-accepted s c.args.file found.0 c.in-Accepted.measured c.in-Accepted.tally before now staged keeps.valid found.1 found.2 h) stages
