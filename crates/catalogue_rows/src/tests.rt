@@ -1,4 +1,4 @@
-//! Rows put and looked up.
+//! Rows put, dropped and looked up.
 use crate::CatalogueRows;
 use keeper_store::{Change, RecordingRow, Tables};
 use lib_base::{Kind, Memory, Summary, Text};
@@ -38,11 +38,15 @@ fn changes(alloc: Global) -> Result<Vec<Change>, Memory> {
     for (id, take) in [(5, 1), (3, 2), (9, 3), (5, 4)] {
         changes.push(Change::PutRecording(recording(alloc, id, take)))?;
     }
+    for id in [8, 9] {
+        changes.push(Change::DropRecording { id })?;
+    }
+    changes.push(Change::PutRecording(recording(alloc, 7, 5)))?;
     Ok(changes)
 }
 
 #[test]
-fn rows_are_put_and_found(rt: HostRuntime) -> Result<(), Fail> {
+fn rows_are_put_dropped_and_found(rt: HostRuntime) -> Result<(), Fail> {
     let alloc = rt.alloc();
     let mut rows = CatalogueRows::of(Tables::empty(alloc));
     let changes = changes(alloc)?;
@@ -55,7 +59,9 @@ fn rows_are_put_and_found(rt: HostRuntime) -> Result<(), Fail> {
         (3, Some(2)),
         (4, None),
         (5, Some(4)),
-        (9, Some(3)),
+        (7, Some(5)),
+        (8, None),
+        (9, None),
         (10, None),
     ] {
         assert_eq!(rt; rows.recording(id).map(|row| row.take), take, "{id}");

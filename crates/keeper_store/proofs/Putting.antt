@@ -33,7 +33,7 @@ put-over less row x xs i within is not_below not_above split =
     sym (take-append-drop i (set xs i row)) ∙ rw (take-set xs i row, drop-set xs i row within, ← there) (sym split)
 
 -- what holds of all rows holds of the one at a place
-All-at : {A : Type 0} → (P : A → Type 0) (xs : List A) → AllByRecursion P xs → (i : ℕ) (d : A) → i < length xs → P (get_or xs i d)
+pub All-at : {A : Type 0} → (P : A → Type 0) (xs : List A) → AllByRecursion P xs → (i : ℕ) (d : A) → i < length xs → P (get_or xs i d)
 All-at P [] all i d within = absurd (omega (arith, within))
 All-at P (x ∷ xs) all zero d within = all.0
 All-at P (x ∷ xs) all (suc i) d within = All-at P xs all.1 i d (omega (arith, within))

@@ -1,7 +1,9 @@
--- Puts and rows of energies worked by hand.
-use Rattle.std.specs.Prelude.{◌≡◌, ℕ, Bool, [], ◌∷◌, nat_lt, refl}
+-- Puts, drops, orders and rows of energies worked by hand.
+use Rattle.std.specs.Prelude.{◌≡◌, ℕ, Bool, true, false, [], ◌∷◌, nat_lt, refl}
+use Rattle.std.specs.Cmp.Lexicographic.{slice_cmp}
+use Rattle.std.specs.Ordering.{nat_cmp, is_lt}
 use Rattle.keeper_store.specs.EnergyBytes.{row_bytes, energies_in}
-use Rattle.keeper_store.specs.Puts.{put}
+use Rattle.keeper_store.specs.Puts.{put, without}
 use Rattle.sound_model.specs.Segments.{greatest_energy}
 
 -- pairs by their first number, as rows by their ids
@@ -25,6 +27,20 @@ highest = refl
 -- in the place of the row of its id
 replaced : put first_less (5, 1) ((2, 0) ∷ (5, 0) ∷ (7, 0) ∷ []) ≡ (2, 0) ∷ (5, 1) ∷ (7, 0) ∷ []
 replaced = refl
+
+-- a row taken out, and one that is not there
+taken_out : without (λ (pair : ℕ × ℕ). pair.0) 5 ((2, 0) ∷ (5, 0) ∷ (7, 5) ∷ []) ≡ (2, 0) ∷ (7, 5) ∷ []
+taken_out = refl
+
+not_there : without (λ (pair : ℕ × ℕ). pair.0) 4 ((2, 4) ∷ (5, 0) ∷ []) ≡ (2, 4) ∷ (5, 0) ∷ []
+not_there = refl
+
+-- the token "b" comes after "B" and before "b-1"
+small_after_capital : is_lt (slice_cmp nat_cmp (98 ∷ []) (66 ∷ [])) ≡ false
+small_after_capital = refl
+
+longer_after_shorter : is_lt (slice_cmp nat_cmp (98 ∷ []) (98 ∷ 45 ∷ 49 ∷ [])) ≡ true
+longer_after_shorter = refl
 
 -- 258 is 1 * 256 + 2
 two_energies : row_bytes (258 ∷ 1 ∷ []) ≡ 0 ∷ 0 ∷ 0 ∷ 0 ∷ 0 ∷ 0 ∷ 0 ∷ 0 ∷ 0 ∷ 1 ∷ 2 ∷ 0 ∷ 0 ∷ 0 ∷ 0 ∷ 0 ∷ 0 ∷ 0 ∷ 0 ∷ 0 ∷ 0 ∷ 1 ∷ []

@@ -1,5 +1,5 @@
 -- Rows in the order of a test.
-use Rattle.std.specs.Prelude.{◌≡◌, ◌≤◌, ◌<◌, ◌==◌, ℕ, Bool, true, false, not, List, [], ◌∷◌, ◌++◌, length, take, drop, filter, slice_index_or, if◌then◌else◌, nat_lt}
+use Rattle.std.specs.Prelude.{◌≡◌, ◌≢◌, ◌≤◌, ◌<◌, ◌==◌, ℕ, Bool, true, false, not, List, [], ◌∷◌, ◌++◌, length, take, drop, filter, slice_index_or, if◌then◌else◌, nat_lt}
 use Rattle.std.specs.Cmp.Lexicographic.{slice_cmp}
 use Rattle.std.specs.Coded.{Coded-set, coded_bool, ×_prop, →_prop, Unit-prop}
 use Rattle.std.specs.List.{AllByRecursion, AllByRecursion-prop}
@@ -81,3 +81,9 @@ pub record IsPlaceOfNumber {A : Type 0} (number : A → ℕ) (n : ℕ) (xs : Lis
   pub within : place ≤ length xs
   pub before : (k : ℕ) (d : A) → k < place → number (slice_index_or xs k d) < n
   pub behind : (k : ℕ) (d : A) → place ≤ k → k < length xs → n ≤ number (slice_index_or xs k d)
+
+-- the row at the place is the first of the number
+pub record IsFirstOfNumber {A : Type 0} (number : A → ℕ) (n : ℕ) (xs : List A) (place : ℕ) : Type 0 where
+  pub inside : place < length xs
+  pub same : (d : A) → number (slice_index_or xs place d) ≡ n
+  pub before : (k : ℕ) (d : A) → k < place → number (slice_index_or xs k d) ≢ n

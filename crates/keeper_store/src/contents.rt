@@ -63,7 +63,8 @@ pub struct NextNumbers {
     pub take: u32,
 }
 
-/// One change of the tables. A put replaces the row of its id or take.
+/// One change of the tables. A put replaces the row of its id, take or token, and a drop of a row
+/// that is not there changes nothing.
 #[derive(Debug, Drop)]
 pub enum Change {
     Counters {
@@ -71,8 +72,19 @@ pub enum Change {
         next_recording: u32,
         next_take: u32,
     },
+    PutAlbum(AlbumRow),
     PutRecording(RecordingRow),
     PutSegments(SegmentRow),
+    PutReply(ReplyRow),
+    DropAlbum {
+        id: u32,
+    },
+    DropRecording {
+        id: u32,
+    },
+    DropSegments {
+        take: u32,
+    },
 }
 
 impl Clone for Change {
@@ -89,8 +101,13 @@ impl Clone for Change {
                 next_recording: *next_recording,
                 next_take: *next_take,
             }),
+            Change::PutAlbum(row) => Ok(Change::PutAlbum(row.clone()?)),
             Change::PutRecording(row) => Ok(Change::PutRecording(row.clone()?)),
             Change::PutSegments(row) => Ok(Change::PutSegments(row.clone()?)),
+            Change::PutReply(row) => Ok(Change::PutReply(row.clone()?)),
+            Change::DropAlbum { id } => Ok(Change::DropAlbum { id: *id }),
+            Change::DropRecording { id } => Ok(Change::DropRecording { id: *id }),
+            Change::DropSegments { take } => Ok(Change::DropSegments { take: *take }),
         }
     }
 }

@@ -6,8 +6,10 @@
 #![tactic(auto)]
 
 mod contents;
+mod drops;
 mod energy_bytes;
 mod keepers;
+mod lookups;
 mod places;
 mod row_tables;
 mod row_types;
@@ -16,8 +18,10 @@ mod tests;
 mod vaults;
 
 pub use contents::{Batch, Change, Changes, NextNumbers, Tables};
+pub use drops::{Numbered, drop_row};
 pub use energy_bytes::{RowFault, bytes_of, energies_of};
 pub use keepers::{Keeper, MemKeeper};
+pub use lookups::{find_place, find_row};
 pub use places::{Ranked, put_row};
 pub use row_tables::RowTables;
 pub use row_types::{AlbumRow, RecordingRow, ReplyRow, Rows, SegmentRow};

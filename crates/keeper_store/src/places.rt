@@ -1,9 +1,9 @@
 //! Rows in their order, and put in their places.
 ghost use Rattle.std.specs.Prelude.{◌≡◌, ◌≤◌, ◌<◌, ◌+◌, ◌↔◌, Bool, IsTrue, true, vec_len, vec_capacity};
-ghost use Rattle.keeper_store.specs.Puts.{put, recording_less, segments_less, IsOrder, Ascends, AscendsWhere, IsPlaceOf};
-ghost use Rattle.keeper_store.specs.Orders.{recordings_in_order, segments_in_order};
+ghost use Rattle.keeper_store.specs.Puts.{put, album_less, recording_less, segments_less, reply_less, IsOrder, Ascends, AscendsWhere, IsPlaceOf};
+ghost use Rattle.keeper_store.specs.Orders.{albums_in_order, recordings_in_order, segments_in_order, replies_in_order};
 
-use crate::{RecordingRow, SegmentRow};
+use crate::{AlbumRow, RecordingRow, ReplyRow, SegmentRow};
 
 /// A row that has its place among others.
 pub trait Ranked {
@@ -16,6 +16,17 @@ pub trait Ranked {
 
     /// It is an order.
     ghost order: { IsOrder less };
+}
+
+/// By ids.
+impl Ranked for AlbumRow {
+    ghost less = { album_less };
+
+    ghost order = { albums_in_order };
+
+    fn is_before(&self, other: &AlbumRow) -> bool {
+        self.id < other.id
+    }
 }
 
 /// By ids.
@@ -37,6 +48,17 @@ impl Ranked for SegmentRow {
 
     fn is_before(&self, other: &SegmentRow) -> bool {
         self.take < other.take
+    }
+}
+
+/// By the bytes of tokens.
+impl Ranked for ReplyRow {
+    ghost less = { reply_less };
+
+    ghost order = { replies_in_order };
+
+    fn is_before(&self, other: &ReplyRow) -> bool {
+        self.token.as_str() < other.token.as_str()
     }
 }
 

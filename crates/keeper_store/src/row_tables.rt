@@ -2,8 +2,9 @@
 ghost use Rattle.std.specs.Prelude.{◌≡◌, ◌↔◌, ◌+◌, ℕ, IfOk, OnOk, length};
 ghost use Rattle.keeper_store.specs.Changes.{changed, changed_all, next_numbers};
 ghost use Rattle.keeper_store.specs.Keepers.{MakesChanges};
-ghost use Rattle.keeper_store.specs.Puts.{recording_less, segments_less, Ascends, AscendsWhere, AscendsWhere-prop};
+ghost use Rattle.keeper_store.specs.Puts.{album_less, recording_less, segments_less, reply_less, Ascends, AscendsWhere, AscendsWhere-prop};
 
+use crate::drops::drop_tested;
 use crate::places::{ascend, put_tested};
 use crate::{
     AlbumRow, Batch, Change, NextNumbers, RecordingRow, ReplyRow, Rows, SegmentRow, Tables,
@@ -19,13 +20,15 @@ pub struct RowTables {
     next_album: u32,
     next_recording: u32,
     next_take: u32,
-    albums: Rows<AlbumRow>,
+    albums: Vec<AlbumRow>,
     recordings: Vec<RecordingRow>,
     segments: Vec<SegmentRow>,
-    replies: Rows<ReplyRow>,
+    replies: Vec<ReplyRow>,
     ascending: bool,
+    ghost albums_ascend: { AscendsWhere ascending album_less albums.items } by { AscendsWhere-prop ascending album_less albums.items },
     ghost recordings_ascend: { AscendsWhere ascending recording_less recordings.items } by { AscendsWhere-prop ascending recording_less recordings.items },
     ghost segments_ascend: { AscendsWhere ascending segments_less segments.items } by { AscendsWhere-prop ascending segments_less segments.items },
+    ghost replies_ascend: { AscendsWhere ascending reply_less replies.items } by { AscendsWhere-prop ascending reply_less replies.items },
 }
 
 impl RowTables {
@@ -36,17 +39,22 @@ impl RowTables {
         ensures held { held_tables result ≡ tables }
         ensures order { RowsAscend tables → IsInOrder result }
     {
+        let albums = tables.albums.into_vec();
         let recordings = tables.recordings.into_vec();
         let segments = tables.segments.into_vec();
-        let ascending = ascend(recordings.as_slice()) && ascend(segments.as_slice());
+        let replies = tables.replies.into_vec();
+        let ascending = ascend(albums.as_slice())
+            && ascend(recordings.as_slice())
+            && ascend(segments.as_slice())
+            && ascend(replies.as_slice());
         RowTables {
             next_album: tables.next_album,
             next_recording: tables.next_recording,
             next_take: tables.next_take,
-            albums: tables.albums,
+            albums,
             recordings,
             segments,
-            replies: tables.replies,
+            replies,
             ascending,
         }
     }
@@ -63,10 +71,10 @@ impl RowTables {
             next_album: self.next_album,
             next_recording: self.next_recording,
             next_take: self.next_take,
-            albums,
+            albums: Rows::of(albums),
             recordings: Rows::of(recordings),
             segments: Rows::of(segments),
-            replies,
+            replies: Rows::of(replies),
         })
     }
 
@@ -100,14 +108,16 @@ impl RowTables {
         self.recordings.as_slice()
     }
 
-    /// Makes room for so many rows more in each table that changes put rows into.
+    /// Makes room for so many rows more in each table.
     pub fn reserve(&mut self, more: usize) -> Result<(), Memory>
         ensures kept { held_tables self.new ≡ held_tables self.old }
         ensures order { IsInOrder self.old → IsInOrder self.new }
         ensures room { OnOk result (HasRoom self.new more) }
     {
+        self.albums.reserve(more)?;
         self.recordings.reserve(more)?;
         self.segments.reserve(more)?;
+        self.replies.reserve(more)?;
         Ok(())
     }
 
@@ -139,10 +149,15 @@ impl RowTables {
                 self.next_recording = next_recording;
                 self.next_take = next_take;
             }
+            Change::PutAlbum(row) => put_tested(&mut self.albums, row, self.ascending),
             Change::PutRecording(row) => {
                 put_tested(&mut self.recordings, row, self.ascending);
             }
             Change::PutSegments(row) => put_tested(&mut self.segments, row, self.ascending),
+            Change::PutReply(row) => put_tested(&mut self.replies, row, self.ascending),
+            Change::DropAlbum { id } => drop_tested(&mut self.albums, id, self.ascending),
+            Change::DropRecording { id } => drop_tested(&mut self.recordings, id, self.ascending),
+            Change::DropSegments { take } => drop_tested(&mut self.segments, take, self.ascending),
         }
     }
 }

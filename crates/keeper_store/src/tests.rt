@@ -1,7 +1,7 @@
 //! The objects in memory, called in turn.
 use crate::{
-    Batch, Change, Changes, Keeper, MemKeeper, MemVault, RecordingRow, RowFault, Rows, SegmentRow,
-    Tables, Vault, bytes_of, energies_of, put_row,
+    AlbumRow, Batch, Change, Changes, Keeper, MemKeeper, MemVault, RecordingRow, ReplyRow,
+    RowFault, Rows, SegmentRow, Tables, Vault, bytes_of, drop_row, energies_of, find_row, put_row,
 };
 use lib_base::{Bytes, Kind, Memory, Outside, Summary, Text};
 use std::alloc::Global;
@@ -18,16 +18,37 @@ fn recording(alloc: Global, id: u32, take: u32) -> Result<RecordingRow, Memory> 
         channels: 2,
         depth: 16,
         digest: [0; 16],
-        summary: Summary {
-            frames: 0,
-            loudness: None,
-            range: None,
-            momentary: None,
-            short_term: None,
-            true_peak: None,
-            peak: 0,
-            gain: None,
-        },
+        summary: silence(),
+    })
+}
+
+fn silence() -> Summary {
+    Summary {
+        frames: 0,
+        loudness: None,
+        range: None,
+        momentary: None,
+        short_term: None,
+        true_peak: None,
+        peak: 0,
+        gain: None,
+    }
+}
+
+fn album(alloc: Global, id: u32) -> AlbumRow {
+    AlbumRow {
+        id,
+        name: Text::of(String::new(alloc)),
+        summary: silence(),
+    }
+}
+
+fn reply(alloc: Global, token: &str, status: u16) -> Result<ReplyRow, Memory> {
+    Ok(ReplyRow {
+        token: Text::of(String::from_str(alloc, token)?),
+        mark: [0; 16],
+        status,
+        body: Bytes::of(Vec::new(alloc)),
     })
 }
 
@@ -124,6 +145,15 @@ fn rows_go_to_their_places(rt: HostRuntime) -> Result<(), Fail> {
     put_row(&mut rows, recording(alloc, 5, 4)?);
     let pairs = ids_and_takes(alloc, rows.as_slice())?;
     assert_eq!(rt; pairs.as_slice(), [(3, 2), (5, 4), (9, 3)].as_slice());
+    drop_row(&mut rows, 4);
+    drop_row(&mut rows, 5);
+    drop_row(&mut rows, 10);
+    let pairs = ids_and_takes(alloc, rows.as_slice())?;
+    assert_eq!(rt; pairs.as_slice(), [(3, 2), (9, 3)].as_slice());
+    for (id, take) in [(3, Some(2)), (5, None), (9, Some(3)), (10, None)] {
+        let found = find_row(rows.as_slice(), id).map(|row| row.take);
+        assert_eq!(rt; found, take, "{id}");
+    }
     Ok(())
 }
 
@@ -143,6 +173,63 @@ fn keeper_puts_among_rows_in_any_order(rt: HostRuntime) -> Result<(), Fail> {
         pairs.as_slice(),
         [(3, 2), (5, 8), (9, 1), (3, 2)].as_slice()
     );
+    let mut drops = Vec::new(alloc);
+    drops.push(Change::DropRecording { id: 3 })?;
+    let drops = Batch {
+        changes: Changes::of(drops),
+    };
+    assert_eq!(rt; keeper.apply(&drops), Ok(()));
+    let pairs = ids_and_takes(alloc, keeper.load()?.recordings.as_slice())?;
+    assert_eq!(rt; pairs.as_slice(), [(5, 8), (9, 1)].as_slice());
+    Ok(())
+}
+
+fn others(alloc: Global) -> Result<Batch, Memory> {
+    let mut changes = Vec::new(alloc);
+    for id in [7, 2, 7, 5] {
+        changes.push(Change::PutAlbum(album(alloc, id)))?;
+    }
+    for (token, status) in [("b", 201), ("B", 200), ("b-1", 409), ("b", 404)] {
+        changes.push(Change::PutReply(reply(alloc, token, status)?))?;
+    }
+    for take in [4, 6] {
+        changes.push(Change::PutSegments(segments(alloc, take, 1)?))?;
+    }
+    for id in [5, 6] {
+        changes.push(Change::DropAlbum { id })?;
+        changes.push(Change::DropRecording { id })?;
+        changes.push(Change::DropSegments { take: id })?;
+    }
+    Ok(Batch {
+        changes: Changes::of(changes),
+    })
+}
+
+// Rows of all four lists, each in its order; a later row replaces the one before. What is dropped
+// is gone, and what is not there is dropped without a change.
+#[test]
+fn keeper_makes_all_changes(rt: HostRuntime) -> Result<(), Fail> {
+    let alloc = rt.alloc();
+    let mut keeper = MemKeeper::new(Tables::empty(alloc), Vec::new(alloc));
+    assert_eq!(rt; keeper.apply(&batch(alloc, 8)?), Ok(()));
+    assert_eq!(rt; keeper.apply(&others(alloc)?), Ok(()));
+    let tables = keeper.load()?;
+    let pairs = ids_and_takes(alloc, tables.recordings.as_slice())?;
+    assert_eq!(rt; pairs.as_slice(), [(3, 2)].as_slice());
+    for (row, id) in tables.albums.as_slice().iter().zip([2, 7]) {
+        assert_eq!(rt; row.id, id);
+    }
+    let replies = [("B", 200), ("b", 404), ("b-1", 409)];
+    for (row, (token, status)) in tables.replies.as_slice().iter().zip(replies) {
+        assert_eq!(rt; row.token.as_str(), token);
+        assert_eq!(rt; row.status, status);
+    }
+    let lengths = (
+        tables.albums.as_slice().len(),
+        tables.segments.as_slice().len(),
+        tables.replies.as_slice().len(),
+    );
+    assert_eq!(rt; lengths, (2, 1, 3));
     Ok(())
 }
 

@@ -1,5 +1,5 @@
 -- What an accepted request leads to: a valid state, whose files the vault holds.
-use Rattle.std.proofs.Common.{◌≡◌, ◌<◌, ◌||◌, ℕ, Bool, true, false, nat_le, List, refl, sym, subst, ap, ◌∙◌, arith, if◌then◌else◌}
+use Rattle.std.proofs.Common.{◌≡◌, ◌<◌, ◌||◌, ℕ, Bool, true, false, nat_le, List, refl, sym, subst, ap, arith, if◌then◌else◌}
 use Rattle.std.proofs.lemmas.Bool.Decides.{nat_tests}
 use Rattle.lib_base.specs.declared.files.Summary.{Summary}
 use Rattle.file_model.specs.Pcm.{Pcm}
@@ -11,7 +11,7 @@ use Rattle.library_model.specs.declared.messages.Request.{Request}
 use Rattle.library_model.specs.declared.refusals.Refusal.TheVariants.{Ids}
 use Rattle.library_model.specs.Asked.{Asked, change, question}
 use Rattle.library_model.specs.Findings.{Finding, Finds, measured, broken_by}
-use Rattle.library_model.specs.Machine.{Verdict, Decides, DecidesCommand, accepts, stays, state_after, import_verdict, imported, new_recording, recording_reply}
+use Rattle.library_model.specs.Machine.{Decides, DecidesCommand, accepts, stays, state_after, import_verdict, imported, new_recording, recording_reply}
 use Rattle.library_model.specs.Replies.{refusal}
 use Rattle.library_model.specs.Stands.{IsValid, BringsWithin, AsksWithin, HoldsFiles, HoldsFileOf}
 use Rattle.library_model.specs.State.{State, numbers_end}

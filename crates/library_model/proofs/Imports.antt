@@ -19,7 +19,7 @@ use Rattle.std.specs.Prelude.{fold}
 use Rattle.library_model.specs.RowRules.{is_in_album}
 use Rattle.library_model.specs.Stands.{IsFound, IsSummed, IsValid, IsWithinLimit, HoldsFiles, album_row, measured_all, members, recording_row, reply_row, segment_row, segment_rows, tables_of}
 use Rattle.library_model.specs.InOrder.{AreInOrder, IsGiven}
-use Rattle.library_model.specs.State.{Album, Recording, State, empty_state, numbers_end, recording_before}
+use Rattle.library_model.specs.State.{Recording, State, empty_state, numbers_end, recording_before}
 use Rattle.library_model.proofs.InOrderLemmas.{AllByRecursion-unmap, AreInOrder-import, empty-AreInOrder}
 use Rattle.library_model.proofs.WorkedNames.{is_name-empty}
 

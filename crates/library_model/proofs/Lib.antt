@@ -7,3 +7,8 @@ pub mod Verdicts
 pub mod RowBounds
 pub mod Rows
 pub mod WorkedRules
+pub mod WaveFiles
+pub mod SegmentRows
+pub mod Determined
+pub mod NoBadRow
+pub mod ValidRows

@@ -1,5 +1,5 @@
 -- Worked rows: what the definitions say of one recording and of its replies.
-use Rattle.std.proofs.Common.{◌≡◌, ◌==◌, ◌*◌, ◌^◌, ℕ, true, false, Some, None, List, [], ◌∷◌, ◌++◌, codes, refl, arith}
+use Rattle.std.proofs.Common.{◌≡◌, ◌==◌, ◌*◌, ◌^◌, ℕ, false, Some, None, List, [], ◌∷◌, codes, refl, arith}
 use Rattle.std.proofs.lemmas.Bool.Decides.{nat_tests}
 use Rattle.std.specs.List.{AllByRecursion}
 use Rattle.std.specs.Fmt.{digits}
@@ -18,7 +18,7 @@ use Rattle.sound_model.proofs.LevelTable.{later_places_pass}
 use Rattle.library_model.specs.Findings.{Finds, measured, broken_by}
 use Rattle.library_model.specs.declared.refusals.Refusal.TheVariants.{Vault, Keeper}
 use Rattle.library_model.specs.declared.messages.Question.TheVariants as about
-use Rattle.library_model.specs.Machine.{recording_reply, import_verdict, imported, question_reply, recording_of, accepts, stays}
+use Rattle.library_model.specs.Machine.{import_verdict, imported, question_reply, recording_of, accepts, stays}
 use Rattle.library_model.specs.Replies.{json, format_refusal, refusal}
 use Rattle.library_model.specs.InOrder.{IsGiven}
 use Rattle.library_model.specs.Stands.{IsValid, recording_row}

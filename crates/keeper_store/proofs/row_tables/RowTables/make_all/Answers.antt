@@ -10,8 +10,10 @@ make_one-requires c =
     let steps : into_iter_items at.change-iterator ≡ c.in-Some.change ∷ into_iter_items c.next.new.self = c.in-Some.ensures.steps.0 in
     let more = ap length steps in
     record {
+      albums = omega (arith, at.invariant.room.albums, more);
       recordings = omega (arith, at.invariant.room.recordings, more);
       segments = omega (arith, at.invariant.room.segments, more);
+      replies = omega (arith, at.invariant.room.replies, more);
     }
 
 pub loop-change-preserved : goal.loop-change-preserved
