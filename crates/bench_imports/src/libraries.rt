@@ -2,6 +2,7 @@
 use catalogue_core::{Library, Staged, ask, commit, stage};
 use keeper_store::{MemKeeper, MemVault, Tables};
 use lib_base::{Bytes, Memory, Steps};
+use library_model::limits::MOST_BODY_BYTES;
 use library_model::{Command, Question, Request};
 use measure_pool::OpenGate;
 use std::alloc::Global;
@@ -19,9 +20,9 @@ pub struct Opened {
 
 impl Opened {
     /// A library that is opened over empty tables.
-    pub fn new(alloc: Global) -> Result<Opened, Memory> {
+    pub fn new<R: Threads + Sync>(rt: &R, alloc: Global) -> Result<Opened, Memory> {
         let mut keeper = MemKeeper::new(Tables::empty(alloc), Vec::new(alloc));
-        let Ok(library) = Library::open(alloc, &mut keeper) else {
+        let Ok(library) = Library::open(rt, alloc, &mut keeper) else {
             return Err(Memory);
         };
         Ok(Opened {
@@ -39,6 +40,9 @@ impl Opened {
         file: &[u8],
         steps: &mut Steps<L>,
     ) -> Result<bool, Memory> {
+        if file.len() as u64 > MOST_BODY_BYTES {
+            return Ok(false);
+        }
         let request = Request {
             command: Command::Import {
                 bytes: Bytes::copy(alloc, file)?,

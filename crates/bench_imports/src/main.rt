@@ -87,7 +87,7 @@ fn imports<R: Threads + Sync, L: Ledger>(
     requires some { 0 < blank.parts }
 {
     let mut steps: Steps<L> = Steps::new(blank);
-    let mut opened = Opened::new(alloc)?;
+    let mut opened = Opened::new(rt, alloc)?;
     let mut accepted = 0u64;
     for _ in 0..times {
         if opened.import(rt, alloc, file, &mut steps)? {

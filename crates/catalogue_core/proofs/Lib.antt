@@ -1,3 +1,4 @@
 pub mod Deciding
 pub mod FoundRows
+pub mod Loading
 pub mod Summing

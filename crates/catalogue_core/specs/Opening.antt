@@ -10,6 +10,13 @@ use Rattle.catalogue_core.specs.declared.libraries.OpenRefusal.{OpenRefusal}
 use Rattle.catalogue_core.specs.declared.libraries.OpenRefusal.TheVariants as refusal
 use Rattle.catalogue_core.specs.Kept.{Holds}
 
+-- what opening over these tables gives: the library of them, where no row breaks a rule, or their first bad row
+abbrev pub OpensTables : Tables → Result Library OpenRefusal → Type 0
+OpensTables t (Ok library) = IsFirstBad t None × Holds library t
+OpensTables t (Err (refusal.BadRow bad)) = IsFirstBad t (Some bad)
+OpensTables t (Err refusal.KeeperFault) = ⊥
+OpensTables t (Err refusal.Memory) = ⊤
+
 -- The library holds tables of which no row breaks a rule: the loaded ones, where the keeper tells them.
 pub record IsOpened (told : Option Tables) (library : Library) : Type 0 where
   pub tables : Tables

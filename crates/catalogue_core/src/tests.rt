@@ -1,11 +1,13 @@
 //! The library over a keeper and a vault in memory.
 ghost use Rattle.std.specs.Prelude.{◌≡◌, ◌≤◌, ◌<◌};
+ghost use Rattle.library_model.specs.Stands.{IsWithinLimit};
 ghost use Rattle.measure_pool.specs.declared.plans.TheConstants.{MOST_WORKERS};
 
 use crate::{Library, OpenRefusal, Staged, ask, commit, stage};
 use keeper_store::{MemKeeper, MemVault, Tables};
 use lib_base::{Bytes, Memory, Steps};
-use library_model::{Command, Question, Reply, Request};
+use library_model::limits::MOST_BODY_BYTES;
+use library_model::{BadRow, Command, Question, Reply, Request, RowRule, RowTable};
 use measure_pool::{Gate, OpenGate};
 use std::alloc::Global;
 use std::marker::Brand;
@@ -24,10 +26,15 @@ struct Objects {
 
 /// The library of empty tables. One call of the keeper and one of the vault fail, or none at 0; the
 /// keeper's first opens the library.
-fn open(alloc: Global, keeper: u32, vault: u32) -> Result<Objects, Fail> {
+fn open<R: Threads + Sync>(
+    rt: &R,
+    alloc: Global,
+    keeper: u32,
+    vault: u32,
+) -> Result<Objects, Fail> {
     let mut keeper = MemKeeper::new(Tables::empty(alloc), [keeper].to_vec(alloc)?);
     let vault = MemVault::new(alloc, [vault].to_vec(alloc)?);
-    let library = Library::open(alloc, &mut keeper)?;
+    let library = Library::open(rt, alloc, &mut keeper)?;
     Ok(Objects {
         library,
         keeper,
@@ -43,6 +50,7 @@ fn import<R: Threads + Sync, G: Gate>(
     workers: u32,
     gate: &G,
 ) -> Result<Reply, Memory>
+    requires within { IsWithinLimit file.now }
     requires some { 1 ≤ workers }
     requires most { workers ≤ MOST_WORKERS }
 {
@@ -58,6 +66,7 @@ fn import_by<R: Threads + Sync, G: Gate, L: Ledger>(
     gate: &G,
     blank: Blank,
 ) -> Result<Reply, Memory>
+    requires within { IsWithinLimit file.now }
     requires some { 1 ≤ workers }
     requires most { workers ≤ MOST_WORKERS }
     requires name { blank.name ≡ L.name }
@@ -81,22 +90,23 @@ fn import_by<R: Threads + Sync, G: Gate, L: Ledger>(
 }
 
 #[test]
-fn a_library_opens_over_empty_tables_alone(rt: HostRuntime) -> Result<(), Fail> {
+fn a_library_opens_over_tables_of_no_bad_row(rt: HostRuntime) -> Result<(), Fail> {
     let alloc = rt.alloc();
-    let first = OpenRefusal::BadRow {
-        table: 1,
+    let first = OpenRefusal::BadRow(BadRow {
+        table: RowTable::Counters,
         id: 1,
-        rule: 0,
-    };
+        rule: RowRule::OtherNumber,
+    });
     for (next_album, failing, want) in [
         (1, 2, None),
-        (2, 2, Some(first)),
+        (2, 2, None),
+        (0, 2, Some(first)),
         (1, 1, Some(OpenRefusal::KeeperFault)),
     ] {
         let mut tables = Tables::empty(alloc);
         tables.next_album = next_album;
         let mut keeper = MemKeeper::new(tables, [failing].to_vec(alloc)?);
-        let opened = Library::open(alloc, &mut keeper);
+        let opened = Library::open(&rt, alloc, &mut keeper);
         assert_eq!(rt;
             opened.err(),
             want,
@@ -163,10 +173,13 @@ fn cases() -> [(Asked, u16, &'static str); 12] {
 
 #[test]
 fn requests_are_answered_in_turn(rt: HostRuntime) -> Result<(), Fail> {
-    let mut objects = open(rt.alloc(), 2, 1)?;
+    let mut objects = open(&rt, rt.alloc(), 2, 1)?;
     for (asked, status, body) in cases() {
         let reply = match asked {
-            Asked::Import(file) => import(&rt, &mut objects, file, 4, &OpenGate)?,
+            Asked::Import(file) => {
+                assert!(rt; file.len() as u64 <= MOST_BODY_BYTES);
+                import(&rt, &mut objects, file, 4, &OpenGate)?
+            }
             Asked::Recording(id) => {
                 let question = Question::Recording(id);
                 ask(&objects.library, &question, &mut objects.vault)?
@@ -217,13 +230,15 @@ fn meets(own: &AtomicU64, other: &AtomicU64) -> bool {
 // A body that measures in one thread, job after job, waits in vain.
 #[test]
 fn two_jobs_meet(rt: HostRuntime) -> Result<(), Fail> {
-    let mut objects = open(rt.alloc(), 0, 0)?;
+    let mut objects = open(&rt, rt.alloc(), 0, 0)?;
     let gate = Meeting {
         first: AtomicU64::new(0),
         second: AtomicU64::new(0),
         met: AtomicU64::new(0),
     };
-    let reply = import(&rt, &mut objects, STEREO, 2, &gate)?;
+    let file = STEREO;
+    assert!(rt; file.len() as u64 <= MOST_BODY_BYTES);
+    let reply = import(&rt, &mut objects, file, 2, &gate)?;
     assert_eq!(rt; reply.status, 201);
     assert_eq!(rt; gate.met.load(Ordering::SeqCst), 2);
     Ok(())

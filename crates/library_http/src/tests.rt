@@ -199,7 +199,7 @@ fn serves_sessions(rt: HostRuntime) -> Result<(), Fail> {
         let mut sink = MemSink::new(alloc, [failing.sink].to_vec(alloc)?);
         let mut vault = MemVault::new(alloc, [failing.vault].to_vec(alloc)?);
         let mut keeper = MemKeeper::new(Tables::empty(alloc), [failing.keeper].to_vec(alloc)?);
-        let Ok(mut library) = Library::open(alloc, &mut keeper) else {
+        let Ok(mut library) = Library::open(&rt, alloc, &mut keeper) else {
             return Err("the library opens".into());
         };
         let end = session(

@@ -81,7 +81,7 @@ fn run_session<R: Threads + Sync, S: Source, K: Sink, D: Keeper, V: Vault>(
     ensures of_vault { (V.shown vault.old).faults ≤ (V.shown vault.new).faults }
     ensures bad_row_cause { result ≡ Status.BadRow → IfSome (D.shown keeper.old).tables HasBadRow }
 {
-    match Library::open(alloc, keeper) {
+    match Library::open(rt, alloc, keeper) {
         Ok(library) => serve(rt, alloc, library, source, sink, keeper, vault),
         Err(OpenRefusal::KeeperFault) => Status::KeeperFault,
         Err(OpenRefusal::BadRow(bad)) => print_bad_row(alloc, bad, sink),
