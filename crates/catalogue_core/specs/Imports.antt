@@ -23,10 +23,10 @@ use Rattle.catalogue_core.specs.declared.prepared.Staged.TheVariants.{Refused, R
 abbrev pub import_row : NextNumbers → List ℕ → Measured → Summary → RecordingRow
 import_row next file m summary = row_of next.recording None [] next.take (kind_of file) (md5 file) m summary
 
--- the counters rise, and both rows are put
+-- the counters rise, and both rows are put, the segments first
 abbrev pub import_changes : NextNumbers → RecordingRow → SegmentRow → List Change
 import_changes next row segments =
-    Counters next.album (next.recording + 1) (next.take + 1) ∷ PutRecording row ∷ PutSegments segments ∷ []
+    Counters next.album (next.recording + 1) (next.take + 1) ∷ PutSegments segments ∷ PutRecording row ∷ []
 
 -- The prepared change is the import of a file of which that is measured, under the next numbers.
 pub record PreparesImport (next : NextNumbers) (file : List ℕ) (m : Measured) (summary : Summary) (p : Prepared) : Type 0 where

@@ -64,8 +64,9 @@ fn import_batch(
         next_recording: next.recording + 1,
         next_take: next.take + 1,
     })?;
-    changes.push(Change::PutRecording(row))?;
+    // a recording comes after its segments: so what is measured of it is there with its row
     changes.push(Change::PutSegments(segments))?;
+    changes.push(Change::PutRecording(row))?;
     Ok(Batch {
         changes: Rows::of(changes),
     })
