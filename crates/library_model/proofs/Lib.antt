@@ -16,3 +16,6 @@ pub mod Dropped
 pub mod Resumming
 pub mod Keeping
 pub mod ActsOnce
+pub mod Steps
+pub mod Resummed
+pub mod NextTables
