@@ -1,6 +1,7 @@
 pub mod BitsLemmas
 pub mod BlockPlaces
 pub mod CommentLaws
+pub mod CommentSpellings
 pub mod CrcLemmas
 pub mod FieldsLemmas
 pub mod FileLaws

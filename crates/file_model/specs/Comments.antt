@@ -1,7 +1,8 @@
 -- A block of comments: a vendor, and comments, each of any bytes (RFC 9639 section 8.6). Numbers
 -- stand with their lowest byte first. What is read is a value and the bytes behind it, or the rule
 -- that is broken first and where.
-use Rattle.std.specs.Prelude.{◌-◌, ◌==◌, ℕ, nat_le, List, length, take, drop, Result, Ok}
+use Rattle.std.specs.Prelude.{◌-◌, ◌<◌, ◌^◌, ◌==◌, ◌++◌, ℕ, nat_le, List, length, take, drop, flat_map, Result, Ok}
+use Rattle.std.specs.List.{AllByRecursion}
 use Rattle.std.specs.Int.{w32, from_le_bytes}
 use Rattle.lib_base.specs.declared.outcomes.Rule.{Rule}
 use Rattle.lib_base.specs.declared.outcomes.Rule.TheVariants.{C}
@@ -9,6 +10,7 @@ use Rattle.file_model.specs.declared.comment_fields.TheConstants.{LENGTH_BYTES}
 use Rattle.file_model.specs.declared.comment_rules.CommentBreak.{CommentBreak}
 use Rattle.file_model.specs.declared.comment_rules.CommentRule.{CommentRule}
 use Rattle.file_model.specs.declared.comment_rules.CommentRule.TheVariants.{CutVendor, CutComment, BytesLeft}
+use Rattle.file_model.specs.Chunks.{four_bytes}
 use Rattle.file_model.specs.Outcomes.{◌>>=◌, holds, times_at}
 
 -- the vendor, and the comments in their order
@@ -55,3 +57,19 @@ comments_at content = do
   entries ← times_at (entry_at content) count.0 count.1
   _ ← holds (length entries.1 == 0) (breaks_before content BytesLeft entries.1)
   Ok (record { vendor = vendor.0; entries = entries.0 })
+
+-- ---- the same in the writer's direction
+
+-- a length and as many bytes
+abbrev pub text : List ℕ → List ℕ
+text bytes = four_bytes (length bytes) ++ bytes
+
+-- a block of comments in bytes
+abbrev pub spelling : Comments → List ℕ
+spelling comments = text comments.vendor ++ (four_bytes (length comments.entries) ++ flat_map text comments.entries)
+
+-- each length has a place in four bytes, and so has the count
+pub record Fits (comments : Comments) : Type 0 where
+  pub vendor : length comments.vendor < 2 ^ 32
+  pub count : length comments.entries < 2 ^ 32
+  pub entries : AllByRecursion (λ entry. length entry < 2 ^ 32) comments.entries
