@@ -1,7 +1,7 @@
 #!/bin/bash
 # Times how many times as fast as one worker more workers measure noise, what a tenth of a second takes,
 # what one worker gains by going over each channel once, and how much memory a measurement takes beyond
-# the sound. The best of some runs each, less the time that it takes to make the noise.
+# the sound. The best of some runs of several rounds each, less the best of as many runs of one round.
 #
 # usage: bench/workers.sh [RUNS [TENTHS]]
 # TENTHS is how long the sounds are, in tenths of a second: 6000, ten minutes, unless it is said.
@@ -29,12 +29,15 @@ clock_alone() {
 
 # milliseconds of one measurement: the clock, channels, bits, tenths of a second, workers, rounds beside the first
 measured() {
-    local run made whole
+    local run made=$work/made whole=$work/whole
+    : >"$made"
+    : >"$whole"
     for ((run = 0; run < runs; run++)); do
-        made=$("$1" "$2" "$3" "$4" "$5" 1)
-        whole=$("$1" "$2" "$3" "$4" "$5" $(($6 + 1)))
-        awk -v made="$made" -v whole="$whole" -v rounds="$6" 'BEGIN { printf "%.3f\n", (whole - made) / rounds * 1000 }'
-    done | sort -n | head -1
+        "$1" "$2" "$3" "$4" "$5" 1 >>"$made"
+        "$1" "$2" "$3" "$4" "$5" $(($6 + 1)) >>"$whole"
+    done
+    awk -v made="$(sort -n "$made" | head -1)" -v whole="$(sort -n "$whole" | head -1)" -v rounds="$6" \
+        'BEGIN { printf "%.3f\n", (whole - made) / rounds * 1000 }'
 }
 
 # the most memory that a run holds, in KB: channels, bits, tenths of a second, workers, rounds
@@ -44,16 +47,16 @@ memory() {
 
 for bits in 16 24; do
     for channels in 2 6; do
-        one=$(measured clock $channels $bits "$tenths" 1 1)
+        one=$(measured clock $channels $bits "$tenths" 1 4)
         for workers in 2 3 4; do
-            some=$(measured clock $channels $bits "$tenths" $workers 1)
+            some=$(measured clock $channels $bits "$tenths" $workers 4)
             awk -v c=$channels -v b=$bits -v w=$workers -v one="$one" -v some="$some" \
                 'BEGIN { printf "%d channels of %d bits, %d workers: %.2f times as fast as 1 (%.1f and %.1f ms)\n", c, b, w, one / some, some, one }'
         done
     done
     # Two workers go over one channel twice, once for the energies and once for the peak.
-    once=$(measured clock_alone 1 $bits "$tenths" 1 1)
-    twice=$(measured clock_alone 1 $bits "$tenths" 2 1)
+    once=$(measured clock_alone 1 $bits "$tenths" 1 4)
+    twice=$(measured clock_alone 1 $bits "$tenths" 2 4)
     awk -v b=$bits -v once="$once" -v twice="$twice" \
         'BEGIN { printf "one channel of %d bits gone over once, on one processor: %.2f of twice (%.1f and %.1f ms)\n", b, once / twice, once, twice }'
 done
