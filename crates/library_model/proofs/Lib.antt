@@ -15,3 +15,6 @@ pub mod NoBadRow
 pub mod ValidRows
 pub mod Dropped
 pub mod Resumming
+pub mod Keeping
+pub mod ActsOnce
+pub mod Exits

@@ -1,35 +1,64 @@
 -- There is one verdict, and an import within the limits is granted.
-use Rattle.std.proofs.Common.{◌≡◌, ℕ, false, ◌||◌, nat_le, if◌then◌else◌, List, sym, ap, ◌∙◌, subst}
+use Rattle.std.proofs.Common.{◌≡◌, ◌||◌, ℕ, Bool, false, nat_le, Option, None, Some, List, sym, ap, ◌∙◌, subst, if◌then◌else◌}
 use Rattle.lib_base.specs.declared.files.Summary.{Summary}
 use Rattle.file_model.specs.Pcm.{Pcm}
-use Rattle.library_model.specs.Findings.{Finds, measured}
 use Rattle.library_model.specs.declared.messages.Command.{Command}
 use Rattle.library_model.specs.declared.messages.Command.TheVariants.{Import}
-use Rattle.library_model.specs.declared.messages.Request.{Request}
-use Rattle.library_model.specs.Asked.{Asked, change, question}
-use Rattle.library_model.proofs.Measuring.{Finds_unique}
-use Rattle.library_model.specs.Machine.{Decides, DecidesCommand, Verdict, stays, accepts, verdict_reply, import_verdict, recording_reply, new_recording, imported}
-use Rattle.library_model.specs.Replies.{refusal}
 use Rattle.library_model.specs.declared.refusals.Refusal.TheVariants.{Ids}
-use Rattle.library_model.specs.State.{State, numbers_end}
+use Rattle.library_model.specs.Asked.{Asked, Wanted, change, command, malformed, question, refused}
+use Rattle.library_model.specs.Findings.{Finding, Finds, measured}
+use Rattle.library_model.specs.Machine.{Decides, DecidesChange, DecidesCommand, Step, Sums, Verdict, accepts, import_step, imported, keeping, kept_under, makes, new_recording, recording_reply, refuses, step_of, verdict_reply, with_albums}
+use Rattle.library_model.specs.Replies.{refusal}
+use Rattle.library_model.specs.State.{Album, Kept, State, numbers_end}
+use Rattle.library_model.proofs.Measuring.{Finds_unique}
+use Rattle.library_model.proofs.Resumming.{Resums-unique}
+
+-- There is one verdict of a step.
+pub Sums-unique : (step : Step) (v w : Verdict) → Sums step v → Sums step w → v ≡ w
+Sums-unique (refuses reply) v w x y = x ∙ sym y
+Sums-unique (makes said next) v w x y =
+    let same : x.0 ≡ y.0 = Resums-unique next.recordings next.albums x.0 y.0 x.1 y.1 in
+    x.2 ∙ ap (λ (albums : List Album). accepts (said (with_albums next albums)) (with_albums next albums)) same ∙ sym y.2
 
 -- There is one verdict on a command.
-pub DecidesCommand-unique : (s : State) (command : Command) (v w : Verdict) → DecidesCommand s command v → DecidesCommand s command w → v ≡ w
-DecidesCommand-unique s (Import file) v w x y =
-    x.2 ∙ ap (import_verdict s file) (Finds_unique file x.0 y.0 x.1 y.1) ∙ sym y.2
+pub DecidesCommand-unique : (s : State) (wanted : Command) (v w : Verdict) → DecidesCommand s wanted v → DecidesCommand s wanted w → v ≡ w
+DecidesCommand-unique s (Import name file) v w x y =
+    let same : x.0 ≡ y.0 = Finds_unique file x.0 y.0 x.1 y.1 in
+    let Of : Finding → Type 0 = λ f. Sums (step_of s (Import name file) f) v in
+    Sums-unique (step_of s (Import name file) y.0) v w (subst Of same x.2) y.2
 
--- There is one verdict on a request.
+-- There is one verdict on a change.
+pub DecidesChange-unique : (s : State) (token mark : List ℕ) (wanted : Wanted) (kept : Option Kept) (v w : Verdict)
+    → DecidesChange s token mark wanted kept v → DecidesChange s token mark wanted kept w → v ≡ w
+DecidesChange-unique s token mark wanted (Some kept) v w x y = x ∙ sym y
+DecidesChange-unique s token mark (malformed reply) None v w x y = x ∙ sym y
+DecidesChange-unique s token mark (command wanted) None v w x y =
+    x.2 ∙ ap (keeping token mark) (DecidesCommand-unique s wanted x.0 y.0 x.1 y.1) ∙ sym y.2
+
+-- There is one verdict on what is asked.
 pub Decides-unique : (s : State) (q : Asked) (v w : Verdict) → Decides s q v → Decides s q w → v ≡ w
-Decides-unique s (change q) v w x y = DecidesCommand-unique s q.command v w x y
-Decides-unique s (question q) v w x y = x ∙ sym y
+Decides-unique s (refused reply) v w x y = x ∙ sym y
+Decides-unique s (question about) v w x y = x ∙ sym y
+Decides-unique s (change token mark wanted) v w x y =
+    DecidesChange-unique s token mark wanted (kept_under token s.replies) v w x y
 
--- The import of an accepted file for which numbers are left is granted: its verdict replies 201.
-pub import_granted : (s : State) (file : List ℕ) (sound : Pcm) (summary : Summary) (request : Request) (verdict : Verdict)
-    → request.command ≡ Import file → Finds file (measured sound summary)
+-- ---- imports
+
+-- The import of an accepted file under a fresh token, for which numbers are left, is granted: its verdict replies 201.
+pub import_granted : (s : State) (token mark name file : List ℕ) (sound : Pcm) (summary : Summary) (verdict : Verdict)
+    → kept_under token s.replies ≡ None → Finds file (measured sound summary)
     → (nat_le numbers_end s.next_recording || nat_le numbers_end s.next_take) ≡ false
-    → Decides s (change request) verdict → (verdict_reply verdict).status ≡ 201
-import_granted s file sound summary request verdict is finds left decides =
-    let command = subst (λ (c : Command). DecidesCommand s c verdict) is decides in
-    let granted = command.2 ∙ ap (import_verdict s file) (Finds_unique file command.0 (measured sound summary) command.1 finds)
-    ∙ ap (λ b. if b then stays (refusal Ids) else accepts (recording_reply 201 (new_recording s file sound summary)) (imported s file sound summary)) left in
-    ap (λ (v : Verdict). (verdict_reply v).status) granted
+    → Decides s (change token mark (command (Import name file))) verdict → (verdict_reply verdict).status ≡ 201
+import_granted s token mark name file sound summary verdict fresh finds left decides =
+    let Of : Option Kept → Type 0 = λ kept. DecidesChange s token mark (command (Import name file)) kept verdict in
+    let fresh_change : Of None = subst Of fresh decides in
+    let decided : Verdict = fresh_change.0 in
+    let by = fresh_change.1 in
+    let same : by.0 ≡ measured sound summary = Finds_unique file by.0 (measured sound summary) by.1 finds in
+    let sums : Sums (import_step s name file (measured sound summary)) decided =
+    subst (λ (f : Finding). Sums (import_step s name file f) decided) same by.2 in
+    let reply = recording_reply 201 (new_recording s name file sound summary) in
+    let step : Bool → Step = λ lacks. if lacks then refuses (refusal Ids) else makes (λ _. reply) (imported s name file sound summary) in
+    let made : Sums (step false) decided = subst (λ (lacks : Bool). Sums (step lacks) decided) left sums in
+    ap (λ (v : Verdict). (verdict_reply v).status) fresh_change.2
+    ∙ ap (λ (v : Verdict). (verdict_reply (keeping token mark v)).status) made.2

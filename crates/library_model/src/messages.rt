@@ -1,5 +1,5 @@
 //! What is asked of the library, and what it replies.
-use lib_base::Bytes;
+use lib_base::{Bytes, Text};
 
 /// What a reply's body is.
 #[derive(Clone, Copy, Debug, PartialEq, Eq)]
@@ -25,8 +25,8 @@ pub struct Reply {
 /// What changes the library.
 #[derive(Debug, Drop)]
 pub enum Command {
-    /// A file to be kept as a new recording.
-    Import { bytes: Bytes },
+    /// A file to be kept as a new recording of that name, in no album.
+    Import { name: Text, bytes: Bytes },
 }
 
 /// A request for a change.

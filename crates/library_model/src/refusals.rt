@@ -9,6 +9,8 @@ pub enum Refusal {
     NoRecording,
     /// The file breaks a rule at a place, which the reply tells too.
     Format,
+    /// The token was given to another request.
+    TokenUsed,
     /// No number is left for a new recording.
     Ids,
     /// The vault counted a fault.
@@ -24,6 +26,8 @@ pub enum Refusal {
 const NO_RECORDING: (u16, &str) = (404, "no-recording");
 
 const FORMAT: (u16, &str) = (422, "format");
+
+const TOKEN_USED: (u16, &str) = (409, "token-used");
 
 const IDS: (u16, &str) = (409, "ids");
 
@@ -55,6 +59,7 @@ impl Refusal {
         match self {
             Refusal::NoRecording => NO_RECORDING,
             Refusal::Format => FORMAT,
+            Refusal::TokenUsed => TOKEN_USED,
             Refusal::Ids => IDS,
             Refusal::Vault => VAULT,
             Refusal::Keeper => KEEPER,
