@@ -1,39 +1,16 @@
 -- A changing request acts once: its reply is kept under its token, and whatever comes with that token again changes nothing.
-use Rattle.std.proofs.Common.{◌≡◌, ◌||◌, ℕ, Bool, true, false, nat_le, Option, Some, List, [], ◌∷◌, ap, ◌∙◌, subst, if◌then◌else◌}
-use Rattle.lib_base.specs.declared.files.Summary.{Summary}
-use Rattle.file_model.specs.Pcm.{Pcm}
+use Rattle.std.proofs.Common.{◌≡◌, ◌||◌, ℕ, Bool, true, false, nat_le, Option, None, Some, List, [], ◌∷◌, refl, sym, ap, ◌∙◌, subst, if◌then◌else◌}
 use Rattle.keeper_store.specs.Puts.{put}
-use Rattle.library_model.specs.declared.messages.Command.{Command}
-use Rattle.library_model.specs.declared.messages.Command.TheVariants.{Import}
 use Rattle.library_model.specs.declared.messages.Reply.{Reply}
-use Rattle.library_model.specs.declared.refusals.Refusal.TheVariants.{Ids}
-use Rattle.library_model.specs.Asked.{Asked, Wanted, change, question, refused}
+use Rattle.library_model.specs.Asked.{Asked, Wanted, change, command, question, refused}
 use Rattle.library_model.specs.Exchanges.{Answers, Exchange}
-use Rattle.library_model.specs.Findings.{Finding, broken_by, measured}
-use Rattle.library_model.specs.Machine.{Answer, AnswersBy, Decides, DecidesChange, DecidesCommand, Sums, Verdict, Way, accepts, as_decided, import_step, imported, keeper_failed, kept_reply, kept_under, makes, new_recording, recording_reply, refuses, state_after, stays, vault_failed, without_memory}
-use Rattle.library_model.specs.Replies.{refusal}
-use Rattle.library_model.specs.State.{Kept, State, kept_before, numbers_end}
+use Rattle.library_model.specs.Machine.{Answer, AnswersBy, Decides, DecidesChange, Verdict, Way, accepts, as_decided, keeper_failed, kept_reply, kept_under, state_after, stays, vault_failed, without_memory}
+use Rattle.library_model.specs.State.{Kept, State, kept_before}
 use Rattle.library_model.proofs.Accepting.{accepted-IsKeptStep}
 use Rattle.library_model.proofs.Keeping.{kept_under-own, kept_under-put}
+use Rattle.library_model.proofs.Steps.{command_leaves}
 
 -- ---- one request
-
--- a command by itself leaves what is kept
-command_leaves : (s : State) (wanted : Command) (reply : Reply) (next : State) → DecidesCommand s wanted (accepts reply next)
-    → next.replies ≡ s.replies
-command_leaves s (Import name file) reply next decides = by_finding decides.0 decides.2
-  where
-    by_left : (sound : Pcm) (summary : Summary) (lacks : Bool)
-        → Sums (if lacks then refuses (refusal Ids)
-        else makes (λ _. recording_reply 201 (new_recording s name file sound summary)) (imported s name file sound summary)) (accepts reply next)
-        → next.replies ≡ s.replies
-    by_left sound summary true is = absurd (cc is)
-    by_left sound summary false is = ap (λ (v : Verdict). (state_after s v).replies) is.2
-
-    by_finding : (finding : Finding) → Sums (import_step s name file finding) (accepts reply next) → next.replies ≡ s.replies
-    by_finding (broken_by rule place) is = absurd (cc is)
-    by_finding (measured sound summary) is =
-        by_left sound summary (nat_le numbers_end s.next_recording || nat_le numbers_end s.next_take) is
 
 -- What a change that is accepted is replied is kept under its token.
 pub accepted_kept : (s : State) (token mark : List ℕ) (wanted : Wanted) (reply : Reply) (next : State)

@@ -1,5 +1,5 @@
 -- What an import does to the state, to the tables and to the files that blobs hold.
-use Rattle.std.proofs.Common.{◌≡◌, ℕ, ◌+◌, ◌<◌, Bool, true, Some, List, [], ◌∷◌, ◌++◌, map, refl, sym, ap, ◌∙◌, subst, append-nil, arith, lt-ltb}
+use Rattle.std.proofs.Common.{◌≡◌, ℕ, ◌+◌, ◌<◌, Bool, true, Option, Some, List, [], ◌∷◌, ◌++◌, map, refl, sym, ap, ◌∙◌, subst, append-nil, arith, lt-ltb}
 use Rattle.std.specs.List.{AllByRecursion}
 use Rattle.std.proofs.lemmas.List.Elements.{filter-append}
 use Rattle.lib_base.specs.declared.files.Summary.{Summary}
@@ -58,12 +58,12 @@ given_of s valid = (
 )
 
 -- There an import's recording comes last.
-pub recordings-imported : (s : State) (name file : List ℕ) (sound : Pcm) (summary : Summary) → IsValid s
-    → (imported s name file sound summary).recordings ≡ s.recordings ++ new_recording s name file sound summary ∷ []
-recordings-imported s name file sound summary valid =
-    put-last recording_before (new_recording s name file sound summary) s.recordings
+pub recordings-imported : (s : State) (album : Option ℕ) (name file : List ℕ) (sound : Pcm) (summary : Summary) → IsValid s
+    → (imported s album name file sound summary).recordings ≡ s.recordings ++ new_recording s album name file sound summary ∷ []
+recordings-imported s album name file sound summary valid =
+    put-last recording_before (new_recording s album name file sound summary) s.recordings
     (AllByRecursion-weaker (λ (r : Recording). IsGiven s.next_recording r.id)
-    (λ (r : Recording). recording_before r (new_recording s name file sound summary) ≡ true) s.recordings
+    (λ (r : Recording). recording_before r (new_recording s album name file sound summary) ≡ true) s.recordings
     (λ r given. lt-ltb r.id s.next_recording given.1) (given_of s valid).0)
 
 -- One recording more puts the row of its segments in its place.
@@ -74,11 +74,11 @@ segment_rows-push rows [] r = refl
 segment_rows-push rows (first ∷ rs) r = segment_rows-push (put segments_less (segment_row first) rows) rs r
 
 -- The tables after an import are the changes of its counters and of its rows.
-pub tables_of-imported : (s : State) (name file : List ℕ) (sound : Pcm) (summary : Summary) → IsValid s → tables_of (imported s name file sound summary)
+pub tables_of-imported : (s : State) (album : Option ℕ) (name file : List ℕ) (sound : Pcm) (summary : Summary) → IsValid s → tables_of (imported s album name file sound summary)
     ≡ changed_all (Counters s.next_album (s.next_recording + 1) (s.next_take + 1)
-    ∷ PutRecording (recording_row (new_recording s name file sound summary))
-    ∷ PutSegments (segment_row (new_recording s name file sound summary)) ∷ []) (tables_of s)
-tables_of-imported s name file sound summary valid =
+    ∷ PutRecording (recording_row (new_recording s album name file sound summary))
+    ∷ PutSegments (segment_row (new_recording s album name file sound summary)) ∷ []) (tables_of s)
+tables_of-imported s album name file sound summary valid =
     let with_rows : List RecordingRow → List SegmentRow → Tables = λ rows segments. record {
       next_album = s.next_album;
       next_recording = s.next_recording + 1;
@@ -88,40 +88,11 @@ tables_of-imported s name file sound summary valid =
       segments = segments;
       replies = map reply_row s.replies;
     } in
-    let new = new_recording s name file sound summary in
-    ap (λ (rows : List RecordingRow). with_rows rows (segment_rows (imported s name file sound summary).recordings))
+    let new = new_recording s album name file sound summary in
+    ap (λ (rows : List RecordingRow). with_rows rows (segment_rows (imported s album name file sound summary).recordings))
     (map-put recording_before recording_less recording_row (λ a b. refl) new s.recordings)
     ∙ ap (with_rows (put recording_less (recording_row new) (map recording_row s.recordings)))
-    (ap segment_rows (recordings-imported s name file sound summary valid) ∙ segment_rows-push [] s.recordings new)
-
--- Each album has the recordings that it had.
-members-imported : (id : ℕ) (s : State) (name file : List ℕ) (sound : Pcm) (summary : Summary) → IsValid s
-    → members id (imported s name file sound summary).recordings ≡ members id s.recordings
-members-imported id s name file sound summary valid =
-    ap (members id) (recordings-imported s name file sound summary valid)
-    ∙ filter-append (λ (r : Recording). is_in_album id r.album) s.recordings (new_recording s name file sound summary ∷ [])
-    ∙ append-nil (members id s.recordings)
-
--- So each still has their levels.
-pub summed-imported : (s : State) (name file : List ℕ) (sound : Pcm) (summary : Summary) → IsValid s
-    → AllByRecursion (IsSummed (imported s name file sound summary).recordings) s.albums
-summed-imported s name file sound summary valid =
-    AllByRecursion-weaker (IsSummed s.recordings) (IsSummed (imported s name file sound summary).recordings) s.albums
-    (λ a summed. subst (λ (rs : List Recording). IsAlbumSummary (measured_all rs) a.summary)
-    (sym (members-imported a.id s name file sound summary valid)) summed) valid.summed
-
--- An import of a file within the limit under numbers that are left keeps a state valid.
-pub imported-IsValid : (s : State) (name file : List ℕ) (sound : Pcm) (summary : Summary) → IsValid s
-    → s.next_recording < numbers_end → s.next_take < numbers_end → is_name name ≡ true → IsWithinLimit file → Finds file (measured sound summary)
-    → IsValid (imported s name file sound summary)
-imported-IsValid s name file sound summary valid ids takes named within reads =
-    let new : Recording = new_recording s name file sound summary in
-    record {
-      rows = subst AreInOrder (sym (tables_of-imported s name file sound summary valid))
-          (AreInOrder-import (tables_of s) (recording_row new) (segment_row new) valid.rows ids takes refl refl refl named refl);
-      files = AllByRecursion-put IsFound recording_before new s.recordings (within, reads) valid.files;
-      summed = summed-imported s name file sound summary valid;
-    }
+    (ap segment_rows (recordings-imported s album name file sound summary valid) ∙ segment_rows-push [] s.recordings new)
 
 -- Blobs that hold another file under the next take hold the files of the state.
 pub HoldsFiles-kept : (s : State) (old new : Blobs) → IsValid s → HoldsFiles old s.recordings
@@ -132,11 +103,11 @@ HoldsFiles-kept s old new valid holds kept =
     (λ r held given. kept r.take (λ same. omega (arith, given.1, same)) ∙ held) holds (given_of s valid).1
 
 -- Blobs that hold the new file under the next take hold the files of the state after the import.
-pub HoldsFiles-imported : (s : State) (name file : List ℕ) (sound : Pcm) (summary : Summary) (old new : Blobs) → IsValid s
+pub HoldsFiles-imported : (s : State) (album : Option ℕ) (name file : List ℕ) (sound : Pcm) (summary : Summary) (old new : Blobs) → IsValid s
     → HoldsFiles old s.recordings → OthersKept s.next_take old new → new s.next_take ≡ Some file
-    → HoldsFiles new (imported s name file sound summary).recordings
-HoldsFiles-imported s name file sound summary old new valid holds kept put_there =
-    AllByRecursion-put (λ (r : Recording). new r.take ≡ Some r.file) recording_before (new_recording s name file sound summary) s.recordings
+    → HoldsFiles new (imported s album name file sound summary).recordings
+HoldsFiles-imported s album name file sound summary old new valid holds kept put_there =
+    AllByRecursion-put (λ (r : Recording). new r.take ≡ Some r.file) recording_before (new_recording s album name file sound summary) s.recordings
     put_there (HoldsFiles-kept s old new valid holds kept)
 
 -- ---- the empty state

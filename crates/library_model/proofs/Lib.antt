@@ -18,3 +18,6 @@ pub mod Resumming
 pub mod Keeping
 pub mod ActsOnce
 pub mod Exits
+pub mod Steps
+pub mod Resummed
+pub mod NextTables

@@ -18,7 +18,7 @@ abbrev pub of_take : ℕ → List SegmentRow → Option SegmentRow
 of_take take rows = find (λ (s : SegmentRow). s.take == take) rows
 
 -- rows with those of recordings put among them
-abbrev rows_with : List SegmentRow → List Recording → List SegmentRow
+abbrev pub rows_with : List SegmentRow → List Recording → List SegmentRow
 rows_with rows recordings = fold (λ (rows : List SegmentRow) (r : Recording). put segments_less (segment_row r) rows) rows recordings
 
 -- ---- a row that is put is the one of its take, and others stay

@@ -1,15 +1,16 @@
 -- There is one verdict, and an import within the limits is granted.
-use Rattle.std.proofs.Common.{◌≡◌, ◌||◌, ℕ, Bool, false, nat_le, Option, None, Some, List, sym, ap, ◌∙◌, subst, if◌then◌else◌}
+use Rattle.std.proofs.Common.{Bool, true, ◌≡◌, ℕ, false, Option, None, Some, ◌||◌, nat_le, if◌then◌else◌, List, refl, sym, ap, ◌∙◌, subst}
 use Rattle.lib_base.specs.declared.files.Summary.{Summary}
 use Rattle.file_model.specs.Pcm.{Pcm}
 use Rattle.library_model.specs.declared.messages.Command.{Command}
-use Rattle.library_model.specs.declared.messages.Command.TheVariants.{Import}
+use Rattle.library_model.specs.declared.messages.Command.TheVariants.{NewAlbum, Import, Retake, Regroup, RemoveRecording, RemoveAlbum}
+use Rattle.library_model.specs.declared.messages.Reply.{Reply}
 use Rattle.library_model.specs.declared.refusals.Refusal.TheVariants.{Ids}
 use Rattle.library_model.specs.Asked.{Asked, Wanted, change, command, malformed, question, refused}
-use Rattle.library_model.specs.Findings.{Finding, Finds, measured}
-use Rattle.library_model.specs.Machine.{Decides, DecidesChange, DecidesCommand, Step, Sums, Verdict, accepts, import_step, imported, keeping, kept_under, makes, new_recording, recording_reply, refuses, step_of, verdict_reply, with_albums}
+use Rattle.library_model.specs.Findings.{Finding, Finds}
+use Rattle.library_model.specs.Machine.{Decides, DecidesChange, DecidesCommand, OfAlbum, OfFile, OfRecording, Step, Sums, Verdict, accepts, import_step, is_there, keeping, kept_under, makes, new_album_step, recording_of, refuses, regroup_step, remove_album_step, remove_step, retake_step, stays, with_albums}
 use Rattle.library_model.specs.Replies.{refusal}
-use Rattle.library_model.specs.State.{Album, Kept, State, numbers_end}
+use Rattle.library_model.specs.State.{Album, Kept, Recording, State}
 use Rattle.library_model.proofs.Measuring.{Finds_unique}
 use Rattle.library_model.proofs.Resumming.{Resums-unique}
 
@@ -20,12 +21,39 @@ Sums-unique (makes said next) v w x y =
     let same : x.0 ≡ y.0 = Resums-unique next.recordings next.albums x.0 y.0 x.1 y.1 in
     x.2 ∙ ap (λ (albums : List Album). accepts (said (with_albums next albums)) (with_albums next albums)) same ∙ sym y.2
 
+-- a fact that one verdict has at most
+abbrev One : (Verdict → Type 0) → Type 0
+One Decided = (v w : Verdict) → Decided v → Decided w → v ≡ w
+
+OfRecording-unique : (found : Option Recording) (Decided : Recording → Verdict → Type 0) → ((r : Recording) → One (Decided r))
+    → One (OfRecording found Decided)
+OfRecording-unique None Decided one v w x y = x ∙ sym y
+OfRecording-unique (Some r) Decided one v w x y = one r v w x y
+
+OfAlbum-unique : (there : Bool) (Decided : Verdict → Type 0) → One Decided → One (OfAlbum there Decided)
+OfAlbum-unique false Decided one v w x y = x ∙ sym y
+OfAlbum-unique true Decided one v w x y = one v w x y
+
+OfFile-unique : (file : List ℕ) (step : Finding → Step) → One (OfFile file step)
+OfFile-unique file step v w x y =
+    let same : x.0 ≡ y.0 = Finds_unique file x.0 y.0 x.1 y.1 in
+    let Of : Finding → Type 0 = λ f. Sums (step f) v in
+    Sums-unique (step y.0) v w (subst Of same x.2) y.2
+
 -- There is one verdict on a command.
 pub DecidesCommand-unique : (s : State) (wanted : Command) (v w : Verdict) → DecidesCommand s wanted v → DecidesCommand s wanted w → v ≡ w
-DecidesCommand-unique s (Import name file) v w x y =
-    let same : x.0 ≡ y.0 = Finds_unique file x.0 y.0 x.1 y.1 in
-    let Of : Finding → Type 0 = λ f. Sums (step_of s (Import name file) f) v in
-    Sums-unique (step_of s (Import name file) y.0) v w (subst Of same x.2) y.2
+DecidesCommand-unique s (NewAlbum name) = Sums-unique (new_album_step s name)
+DecidesCommand-unique s (Import album name file) =
+    OfAlbum-unique (is_there album s.albums) (OfFile file (import_step s album name file)) (OfFile-unique file (import_step s album name file))
+DecidesCommand-unique s (Retake id file) =
+    OfRecording-unique (recording_of id s.recordings) (λ r. OfFile file (retake_step s r file)) (λ r. OfFile-unique file (retake_step s r file))
+DecidesCommand-unique s (Regroup id album) =
+    OfRecording-unique (recording_of id s.recordings) (λ r. OfAlbum (is_there album s.albums) (Sums (regroup_step s r album)))
+    (λ r. OfAlbum-unique (is_there album s.albums) (Sums (regroup_step s r album)) (Sums-unique (regroup_step s r album)))
+DecidesCommand-unique s (RemoveRecording id) =
+    OfRecording-unique (recording_of id s.recordings) (λ r. Sums (remove_step s r)) (λ r. Sums-unique (remove_step s r))
+DecidesCommand-unique s (RemoveAlbum id) =
+    OfAlbum-unique (is_there (Some id) s.albums) (Sums (remove_album_step s id)) (Sums-unique (remove_album_step s id))
 
 -- There is one verdict on a change.
 pub DecidesChange-unique : (s : State) (token mark : List ℕ) (wanted : Wanted) (kept : Option Kept) (v w : Verdict)

@@ -1,7 +1,7 @@
 -- What the library is asked.
 use Rattle.std.specs.Prelude.{ℕ, Bool, true, false, List}
 use Rattle.library_model.specs.declared.messages.Command.{Command}
-use Rattle.library_model.specs.declared.messages.Command.TheVariants.{Import}
+use Rattle.library_model.specs.declared.messages.Command.TheVariants.{NewAlbum, Import, Retake, Regroup, RemoveRecording, RemoveAlbum}
 use Rattle.library_model.specs.declared.messages.Question.{Question}
 use Rattle.library_model.specs.declared.messages.Reply.{Reply}
 
@@ -19,7 +19,12 @@ pub data Asked : Type 0 where
 
 -- a command that is accepted puts a file into the vault
 abbrev pub puts_file : Command → Bool
-puts_file (Import name file) = true
+puts_file (NewAlbum name) = false
+puts_file (Import album name file) = true
+puts_file (Retake recording file) = true
+puts_file (Regroup recording album) = false
+puts_file (RemoveRecording recording) = false
+puts_file (RemoveAlbum album) = false
 
 -- what is asked comes to the vault, where it is accepted
 abbrev pub asks_vault : Asked → Bool

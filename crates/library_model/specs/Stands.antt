@@ -16,7 +16,7 @@ use Rattle.keeper_store.specs.Puts.{put, segments_less}
 use Rattle.sound_model.specs.Albums.{IsAlbumSummary}
 use Rattle.library_model.specs.declared.limits.TheConstants.{MOST_BODY_BYTES}
 use Rattle.library_model.specs.declared.messages.Command.{Command}
-use Rattle.library_model.specs.declared.messages.Command.TheVariants.{Import}
+use Rattle.library_model.specs.declared.messages.Command.TheVariants.{NewAlbum, Import, Retake, Regroup, RemoveRecording, RemoveAlbum}
 use Rattle.library_model.specs.Asked.{Asked, Wanted, change, command, malformed, question, refused}
 use Rattle.library_model.specs.Findings.{Finds, kind_of, measured, measured_of}
 use Rattle.library_model.specs.InOrder.{AreInOrder}
@@ -122,7 +122,12 @@ HoldsFiles blobs recordings = AllByRecursion (λ (r : Recording). blobs r.take �
 
 -- what a command brings has its form: its name is one, and its file is within the limit
 abbrev pub BringsWithin : Command → Type 0
-BringsWithin (Import name file) = (is_name name ≡ true) × IsWithinLimit file
+BringsWithin (NewAlbum name) = is_name name ≡ true
+BringsWithin (Import album name file) = (is_name name ≡ true) × IsWithinLimit file
+BringsWithin (Retake recording file) = IsWithinLimit file
+BringsWithin (Regroup recording album) = ⊤
+BringsWithin (RemoveRecording recording) = ⊤
+BringsWithin (RemoveAlbum album) = ⊤
 
 -- so has what a change wants
 abbrev pub WantsWithin : Wanted → Type 0
@@ -137,7 +142,12 @@ AsksWithin (change token mark wanted) = (is_token token ≡ true) × WantsWithin
 
 -- the key holds the file that a command brings, where it brings one
 abbrev pub HoldsFileOf : Command → ℕ → Blobs → Type 0
-HoldsFileOf (Import name file) key blobs = blobs key ≡ Some file
+HoldsFileOf (NewAlbum name) key blobs = ⊤
+HoldsFileOf (Import album name file) key blobs = blobs key ≡ Some file
+HoldsFileOf (Retake recording file) key blobs = blobs key ≡ Some file
+HoldsFileOf (Regroup recording album) key blobs = ⊤
+HoldsFileOf (RemoveRecording recording) key blobs = ⊤
+HoldsFileOf (RemoveAlbum album) key blobs = ⊤
 
 -- the key holds the file that is brought with what is wanted, where one is
 abbrev pub HoldsWanted : Wanted → ℕ → Blobs → Type 0

@@ -7,11 +7,17 @@ ghost use Rattle.library_model.specs.Refusals.{status_of, word_of};
 pub enum Refusal {
     /// No recording has the id that is asked for.
     NoRecording,
+    /// No album has the id that is asked for, or that is named.
+    NoAlbum,
+    /// The album that is to be removed has recordings.
+    NotEmpty,
     /// The file breaks a rule at a place, which the reply tells too.
     Format,
     /// The token was given to another request.
     TokenUsed,
-    /// No number is left for a new recording.
+    /// An album would have too many recordings.
+    AlbumFull,
+    /// No number is left for a new album, recording or take.
     Ids,
     /// The vault counted a fault.
     Vault,
@@ -24,6 +30,12 @@ pub enum Refusal {
 // The status of each refusal (RFC 9110 section 15), and the word that names it in the reply. The
 // definitions cite these constants, so each status and each word stands here alone.
 const NO_RECORDING: (u16, &str) = (404, "no-recording");
+
+const NO_ALBUM: (u16, &str) = (404, "no-album");
+
+const NOT_EMPTY: (u16, &str) = (409, "not-empty");
+
+const ALBUM_FULL: (u16, &str) = (409, "album-full");
 
 const FORMAT: (u16, &str) = (422, "format");
 
@@ -58,6 +70,9 @@ impl Refusal {
     {
         match self {
             Refusal::NoRecording => NO_RECORDING,
+            Refusal::NoAlbum => NO_ALBUM,
+            Refusal::NotEmpty => NOT_EMPTY,
+            Refusal::AlbumFull => ALBUM_FULL,
             Refusal::Format => FORMAT,
             Refusal::TokenUsed => TOKEN_USED,
             Refusal::Ids => IDS,
