@@ -109,14 +109,14 @@ refusal-keeper = refl
 
 -- The first import makes recording 1.
 pub import_step-makes : import_step empty_state [] (four_frames 1) (measured row_sound row_summary)
-    ≡ makes (λ _. json 201 (codes "{\"channels\":1,\"depth\":16,\"frames\":4,\"gain\":null,\"id\":1,\"kind\":\"wave\",\"loudness\":null,\"momentary\":null,\"peak\":\"0.537233\",\"range\":null,\"short\":null,\"true_peak\":-540}"))
+    ≡ makes (λ _. json 201 (codes "{\"album\":null,\"channels\":1,\"depth\":16,\"frames\":4,\"gain\":null,\"id\":1,\"kind\":\"wave\",\"loudness\":null,\"momentary\":null,\"name\":\"\",\"peak\":\"0.537233\",\"range\":null,\"short\":null,\"take\":1,\"true_peak\":-540}"))
     (record empty_state { next_recording = 2; next_take = 2; recordings = row_recording ∷ [] })
 unfolding serde_json_on_literals digits millionths
 import_step-makes = refl
 
 -- From the state that it leads to, a question after recording 1 is answered with the same body.
 pub question_reply-imported : question_reply (imported empty_state [] (four_frames 1) row_sound row_summary) (about.Recording 1)
-    ≡ json 200 (codes "{\"channels\":1,\"depth\":16,\"frames\":4,\"gain\":null,\"id\":1,\"kind\":\"wave\",\"loudness\":null,\"momentary\":null,\"peak\":\"0.537233\",\"range\":null,\"short\":null,\"true_peak\":-540}")
+    ≡ json 200 (codes "{\"album\":null,\"channels\":1,\"depth\":16,\"frames\":4,\"gain\":null,\"id\":1,\"kind\":\"wave\",\"loudness\":null,\"momentary\":null,\"name\":\"\",\"peak\":\"0.537233\",\"range\":null,\"short\":null,\"take\":1,\"true_peak\":-540}")
 unfolding serde_json_on_literals digits millionths
 question_reply-imported = refl
 

@@ -1,5 +1,5 @@
 -- What the library is asked.
-use Rattle.std.specs.Prelude.{ℕ, Bool, true, false, List}
+use Rattle.std.specs.Prelude.{◌||◌, not, ℕ, Bool, true, false, List}
 use Rattle.library_model.specs.declared.messages.Command.{Command}
 use Rattle.library_model.specs.declared.messages.Command.TheVariants.{NewAlbum, Import, Retake, Regroup, RemoveRecording, RemoveAlbum}
 use Rattle.library_model.specs.declared.messages.Question.{Question}
@@ -32,3 +32,19 @@ asks_vault (refused reply) = false
 asks_vault (question about) = false
 asks_vault (change token mark (malformed reply)) = false
 asks_vault (change token mark (command wanted)) = puts_file wanted
+
+-- a command that is accepted may take a file out of the vault
+abbrev pub takes_file : Command → Bool
+takes_file (NewAlbum name) = false
+takes_file (Import album name file) = false
+takes_file (Retake recording file) = true
+takes_file (Regroup recording album) = false
+takes_file (RemoveRecording recording) = true
+takes_file (RemoveAlbum album) = false
+
+-- what is asked never comes to the vault: it neither brings a file nor takes one out
+abbrev pub spares_vault : Asked → Bool
+spares_vault (refused reply) = true
+spares_vault (question about) = true
+spares_vault (change token mark (malformed reply)) = true
+spares_vault (change token mark (command wanted)) = not (puts_file wanted || takes_file wanted)

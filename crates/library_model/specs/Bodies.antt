@@ -21,11 +21,17 @@ abbrev pub kind_text : Kind → List ℕ
 kind_text Wave = codes "wave"
 kind_text Flac = codes "flac"
 
--- a recording as it is answered: its channels, the bits of a sample, its frames, the kind of its file, and its levels; the peak is a
--- text, 1 being full scale
+-- the id of the album that a recording is in, or null
+abbrev pub album_id_data : Option ℕ → Data
+album_id_data None = null
+album_id_data (Some id) = number (unsigned id)
+
+-- a recording as it is answered: its album, its channels, the bits of a sample, its frames, the kind of its file, its name, its take,
+-- and its levels; the peak is a text, 1 being full scale
 abbrev pub recording_data : RecordingRow → Data
 recording_data r =
-    object (member (codes "channels") (number (unsigned r.channels))
+    object (member (codes "album") (album_id_data r.album)
+    (member (codes "channels") (number (unsigned r.channels))
     (member (codes "depth") (number (unsigned r.depth))
     (member (codes "frames") (number (unsigned r.summary.frames))
     (member (codes "gain") (level_data r.summary.gain)
@@ -33,10 +39,12 @@ recording_data r =
     (member (codes "kind") (string (kind_text r.kind))
     (member (codes "loudness") (level_data r.summary.loudness)
     (member (codes "momentary") (level_data r.summary.momentary)
+    (member (codes "name") (string r.name)
     (member (codes "peak") (string (peak_text r.summary.peak))
     (member (codes "range") (level_data r.summary.range)
     (member (codes "short") (level_data r.summary.short_term)
-    (member (codes "true_peak") (level_data r.summary.true_peak) no_members))))))))))))
+    (member (codes "take") (number (unsigned r.take))
+    (member (codes "true_peak") (level_data r.summary.true_peak) no_members)))))))))))))))
 
 -- what is replied about the recording of a row
 abbrev pub row_reply : ℕ → RecordingRow → Reply

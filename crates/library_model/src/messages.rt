@@ -55,12 +55,6 @@ pub enum Command {
     },
 }
 
-/// A request for a change.
-#[derive(Debug, Drop)]
-pub struct Request {
-    pub command: Command,
-}
-
 /// What is asked without a change.
 #[derive(Clone, Copy, Debug, PartialEq, Eq)]
 pub enum Question {
