@@ -71,7 +71,7 @@ fault() {
 
 # the value of a key of the reply
 value() {
-    sed -n 's/.*"'"$1"'":\("[^"]*"\|[^,}]*\).*/\1/p' "$work/reply" | tr -d '"'
+    sed -n 's/.*"'"$1"'":"\{0,1\}\([^",}]*\).*/\1/p' "$work/reply"
 }
 
 # a number of hundredths with its unit, or a dash
@@ -147,8 +147,16 @@ fi
 
 # ---- the files, in the order of their paths
 
-find "$folder" -type f \( -name '*.[wW][aA][vV]' -o -name '*.[fF][lL][aA][cC]' \) ! -name '*
+# the waves and FLAC files of which the path has a line end, or has none
+found() {
+    find "$folder" -type f \( -name '*.[wW][aA][vV]' -o -name '*.[fF][lL][aA][cC]' \) "$@"
+}
+
+found ! -path '*
 *' >"$work/unsorted" || die "$folder can't be read"
+odd=$(found -path '*
+*' -exec echo odd \; | wc -l | tr -d ' ')
+[ "$odd" -eq 0 ] || echo "passed over, for a line end in their names: $odd"
 LC_ALL=C sort "$work/unsorted" >"$work/files"
 total=$(wc -l <"$work/files" | tr -d ' ')
 done=0 taken=0 refused=0 failed=0
