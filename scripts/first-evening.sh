@@ -234,7 +234,8 @@ sleep 0.2
 began=$SECONDS
 check 'a busy client beside an idle one' "$(curl -sS -m 60 -o /dev/null -w '%{http_code}' "$server/albums/1")" 200
 waited=$((SECONDS - began))
-check "which waited for it ($waited s), 32 s at most" "$((waited <= 32))" 1
+# 30 s of silence, and 2 in which what an ended peer still sends is dropped
+check "which waited for it ($waited s), 34 s at most" "$((waited <= 34))" 1
 exec 3>&-
 
 # ---- a second process, and a pulled plug
