@@ -259,8 +259,8 @@ acknowledged=$(grep -c ': recording' "$work/before")
 start "$work/library"
 sh "$clone/examples/import-folder.sh" "$work/many" Many >"$work/after"
 check "after a kill behind $acknowledged of 60 files the rest is taken" "$(tail -n 1 "$work/after")" '60 taken, 0 refused, 0 failed'
-check 'and what was acknowledged has the same ids' "$(grep ': recording' "$work/before" | comm -23 <(grep ': recording' "$work/before" | sort) \
-    <(sort "$work/after") | wc -l)" 0
+check 'and what was acknowledged has the same ids' \
+    "$(comm -23 <(grep ': recording' "$work/before" | sort) <(sort "$work/after") | wc -l)" 0
 many=$(head -n 1 "$work/after" | sed 's/album \([0-9]*\):.*/\1/')
 check 'and each file is there once' \
     "$(ask GET "/albums/$many" | sed 's/.*"recordings":\[\([^]]*\)\].*/\1/' | tr ',' '\n' | grep -c .)" 60
