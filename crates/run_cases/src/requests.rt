@@ -85,7 +85,12 @@ fn change(
     Ok(match word {
         "new-album" => {
             let body = format!(in alloc; "{{\"name\":\"{rest}\"}}")?;
-            to(alloc, "POST", format!(in alloc; "/albums")?, Some(body.as_bytes()))?
+            to(
+                alloc,
+                "POST",
+                format!(in alloc; "/albums")?,
+                Some(body.as_bytes()),
+            )?
         }
         "import" => import(alloc, album, find(files, rest)?)?,
         "retake" => {
@@ -99,7 +104,12 @@ fn change(
             let target = format!(in alloc; "/recordings/{first}/album")?;
             to(alloc, "PUT", target, Some(body.as_bytes()))?
         }
-        "remove" => to(alloc, "DELETE", format!(in alloc; "/recordings/{rest}")?, None)?,
+        "remove" => to(
+            alloc,
+            "DELETE",
+            format!(in alloc; "/recordings/{rest}")?,
+            None,
+        )?,
         _ => to(alloc, "DELETE", format!(in alloc; "/albums/{rest}")?, None)?,
     })
 }
@@ -129,12 +139,7 @@ fn asked(alloc: Global, word: &str, rest: &str) -> Result<Request> {
 }
 
 /// The request of a method, a target and a body.
-fn to(
-    alloc: Global,
-    method: &'static str,
-    target: String,
-    body: Option<&[u8]>,
-) -> Result<Request> {
+fn to(alloc: Global, method: &'static str, target: String, body: Option<&[u8]>) -> Result<Request> {
     let body = match body {
         Some(bytes) => {
             let mut body = Vec::new(alloc);
@@ -158,7 +163,10 @@ fn add_one(
     request: &Request,
 ) -> Result<()> {
     let (method, target) = (request.method, request.target.as_str());
-    add_line(input, format!(in alloc; "{method} {target} HTTP/1.1")?.as_str())?;
+    add_line(
+        input,
+        format!(in alloc; "{method} {target} HTTP/1.1")?.as_str(),
+    )?;
     add_line(input, "Host: a")?;
     if method != "GET" {
         add_token(alloc, input, next)?;
@@ -186,7 +194,10 @@ fn add_token(alloc: Global, input: &mut Vec<u8>, next: &mut Next<'_>) -> Result<
         None => {
             next.numbered = next.numbered.checked_add(1).context("no number is left")?;
             let number = next.numbered;
-            add_line(input, format!(in alloc; "Request-Token: {number}")?.as_str())
+            add_line(
+                input,
+                format!(in alloc; "Request-Token: {number}")?.as_str(),
+            )
         }
     }
 }
