@@ -20,8 +20,11 @@ mod tests;
 mod values;
 
 pub use doors::{Door, MemDoor};
-pub use files::{Kind, Measured, Span, Summary, kind_of};
-pub use limits::{MOST_CHANNELS, SAMPLE_RATE};
+pub use files::{Kind, Measured, Span, Summary, content_of, kind_of};
+pub use limits::{
+    BLOCK_SEGMENTS, FULL_POWER, GREATEST_ENERGY, GREATEST_PEAK, MOST_CHANNELS, MOST_SAMPLES,
+    NUMBERS_END, SAMPLE_RATE, SEGMENT_FRAMES, WINDOW_SEGMENTS,
+};
 pub use outcomes::{Broken, Failed, Memory, Outside, Refused, Rule};
 pub use plans::FaultPlan;
 pub use sinks::{MemSink, Sink, write_all};
