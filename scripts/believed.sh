@@ -18,7 +18,7 @@ command -v python3 >/dev/null || { echo 'believed.sh: python3 is not here' >&2; 
 exec python3 - "$@" <<'PYTHON'
 import glob, os, re, sys
 
-USE = re.compile(r"^\s*(?:ghost )?use Rattle\.([A-Za-z0-9_.]+?)(?:\.\{([^}]*)\}| as (\w+))?;?\s*$")
+USE = re.compile(r"^\s*(?:ghost |(?:unfoldable )?pub )?use Rattle\.([A-Za-z0-9_.]+?)(?:\.\{([^}]*)\}| as (\w+))?;?\s*$")
 OWN = {os.path.basename(path) for path in glob.glob("crates/*")}
 
 
@@ -59,7 +59,7 @@ def read_specs(path):
             comment.append(before[3:])
         elif not before.strip():
             comment = []
-        if not line.strip() or re.match(r"use |module |pub (mod|use) |infix", line):
+        if not line.strip() or re.match(r"use |module |(unfoldable )?pub (mod|use) |infix", line):
             continue
         head = re.match(r"(?:(?:abbrev|unfoldable|pub) )*(?:(record|data) )?(\S+)(.*)$", line)
         begins = re.match(r"(abbrev|unfoldable|pub|record|data) ", line)
@@ -106,13 +106,20 @@ def names_in(module, text):
             yield module.imports["◌>>=◌"]
 
 
+def defined(path, name):
+    """Where a name is defined that a file of specs may pass on."""
+    while path in specs and name not in specs[path].home and name in specs[path].imports:
+        path, name = specs[path].imports[name]
+    return path, name
+
+
 def reach(module, text, own, seen, types):
     """Adds what the text reaches."""
     todo = [(module, own, text)]
     while todo:
         module, own, text = todo.pop()
         for path, name in names_in(module, text):
-            path = path or own
+            path, name = defined(path or own, name)
             if path in specs:
                 target = specs[path]
                 name = target.home.get(name)

@@ -1,7 +1,6 @@
 //! The recordings of an album, and what they have together.
 ghost use Rattle.std.specs.Prelude.{◌≡◌, ◌≤◌, ◌*◌, length};
-ghost use Rattle.lib_base.specs.declared.limits.TheConstants.{GREATEST_ENERGY, GREATEST_PEAK, BLOCK_SEGMENTS, WINDOW_SEGMENTS};
-ghost use Rattle.album_merge.specs.Bounds.{most_recordings};
+ghost use Rattle.lib_base.specs.declared.limits.TheConstants.{GREATEST_ENERGY, GREATEST_PEAK, BLOCK_SEGMENTS, WINDOW_SEGMENTS, MOST_MEMBERS};
 ghost use Rattle.album_merge.specs.Members.{AscendBy, IsPlaceOf, member_id};
 ghost use Rattle.album_merge.specs.Joined.{frames_in, greatest_block_in, greatest_window_in, peak_in};
 
@@ -16,7 +15,7 @@ pub struct Member {
 
 /// The frames of all members.
 pub(crate) fn frames_of(members: &[Member]) -> u64
-    requires { length members.now ≤ most_recordings }
+    requires { length members.now ≤ MOST_MEMBERS }
     ensures { result ≡ frames_in members.now }
 {
     let mut frames = 0;

@@ -1,12 +1,11 @@
 //! Tallies of recordings.
 ghost use Rattle.std.specs.Prelude.{◌≡◌, ◌≤◌, ◌<◌, ◌*◌, ◌^◌, ℕ, filter, length, All, IfOk};
 ghost use Rattle.lib_base.specs.declared.files.Measured.{Measured as Recording};
-ghost use Rattle.lib_base.specs.declared.limits.TheConstants.{GREATEST_ENERGY, MOST_SAMPLES, GREATEST_PEAK, BLOCK_SEGMENTS, WINDOW_SEGMENTS};
+ghost use Rattle.lib_base.specs.declared.limits.TheConstants.{GREATEST_ENERGY, MOST_SAMPLES, GREATEST_PEAK, BLOCK_SEGMENTS, WINDOW_SEGMENTS, MOST_SEGMENTS};
 ghost use Rattle.sound_model.specs.Albums.{SummarisesMeasured};
 ghost use Rattle.sound_model.specs.Loudness.{is_audible};
 ghost use Rattle.sound_model.specs.Ranges.{is_window_audible};
 ghost use Rattle.sound_model.specs.Summaries.{IsWithinBounds};
-ghost use Rattle.album_merge.specs.Bounds.{most_segments};
 ghost use Rattle.album_merge.specs.Tallies.{StandsForMeasured};
 
 use crate::summaries::{greatest, summarise};
@@ -91,7 +90,7 @@ impl TrackTally {
     pub(crate) fn blocks(&self) -> &[u128]
         ensures audible { filter is_audible result.now ≡ self.now.blocks }
         ensures within { All (λ z. z ≤ BLOCK_SEGMENTS * GREATEST_ENERGY) result.now }
-        ensures few { length result.now ≤ most_segments }
+        ensures few { length result.now ≤ MOST_SEGMENTS }
     {
         self.blocks.as_slice()
     }
@@ -101,7 +100,7 @@ impl TrackTally {
         ensures audible { filter is_window_audible result.now ≡ self.now.windows }
         ensures within { All (λ z. z ≤ self.now.greatest_window) result.now }
         ensures small { All (λ (z : ℕ). z < 2 ^ 87) result.now }
-        ensures few { length result.now ≤ most_segments }
+        ensures few { length result.now ≤ MOST_SEGMENTS }
     {
         self.windows.as_slice()
     }

@@ -1,6 +1,6 @@
 //! Channels added by their weights.
 ghost use Rattle.std.specs.Prelude.{◌≡◌, ◌≤◌, ◌<◌, ◌+◌, ◌*◌, length, slice_index, EachIndex};
-ghost use Rattle.lib_base.specs.declared.limits.TheConstants.{GREATEST_ENERGY};
+ghost use Rattle.lib_base.specs.declared.limits.TheConstants.{GREATEST_ENERGY, MOST_CHANNELS};
 ghost use Rattle.sound_model.specs.Segments.{weights};
 
 /// The weight of a channel, in hundredths: none for low frequencies, 1.41 for a channel at the back
@@ -8,7 +8,7 @@ ghost use Rattle.sound_model.specs.Segments.{weights};
 /// low frequencies, and those at the back last.
 pub fn weight(channels: usize, channel: usize) -> u128
     requires some { 1 ≤ channels }
-    requires six { channels ≤ 6 }
+    requires six { channels ≤ MOST_CHANNELS }
     requires channel { channel < channels }
     ensures { result ≡ slice_index (weights channels) channel }
 {

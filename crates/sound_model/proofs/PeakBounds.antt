@@ -7,6 +7,7 @@ use Rattle.std.proofs.lemmas.Nat.{mul-le, pow-add, pow_pos}
 use Rattle.std.proofs.lemmas.List.{get_or_past}
 use Rattle.std.proofs.lemmas.List.Elements.{All-get_or, All-head, All-tail}
 use Rattle.lib_base.specs.Sounds.{IsSample}
+use Rattle.lib_base.specs.declared.limits.TheConstants.{PEAK_REACH}
 use Rattle.sound_model.specs.Peaks.{scaled, sample_before, tapped, phase_size, peak_at, peak_from, peak_of, first_phase, second_phase, third_phase, fourth_phase}
 
 -- the greatest sample at its scale
@@ -103,5 +104,5 @@ pub peak_of_within : (depth frames : ℕ) (lists : List (List ℤ)) → 4 ≤ de
 peak_of_within depth frames [] low high all = omega arith
 peak_of_within depth frames (samples ∷ lists) low high all =
     let OfChannel : List ℤ → Type 0 = λ xs. All (IsSample depth) xs in
-    let here = peak_from_within depth samples 0 (frames + 11 - 0) low high (All-head OfChannel samples lists all) in
+    let here = peak_from_within depth samples 0 (frames + PEAK_REACH - 0) low high (All-head OfChannel samples lists all) in
     let rest = peak_of_within depth frames lists low high (All-tail OfChannel samples lists all) in omega (arith, here, rest)

@@ -1,6 +1,7 @@
 //! A run over places, which keeps the greatest size so far.
 ghost use Rattle.std.specs.Prelude.{◌≡◌, ◌≤◌, ◌<◌, ◌+◌, ◌-◌, ◌*◌, ◌^◌, ℕ, ℤ, pos, List, length, take, max, All, IsTrue, ◌↔◌, unsigned_abs};
 ghost use Rattle.lib_base.specs.Sounds.{IsSample, part};
+ghost use Rattle.lib_base.specs.declared.limits.TheConstants.{LEAST_DEPTH, GREATEST_DEPTH};
 ghost use Rattle.sound_model.specs.Peaks.{scaled, sample_before};
 ghost use Rattle.true_peak.specs.Windows.{history_at, size_after};
 
@@ -97,8 +98,8 @@ impl Run {
 
     /// The run over the places of these samples of `depth` bits.
     pub fn over_samples(self, samples: &[i32], depth: u32) -> Run
-        requires low { 4 ≤ depth }
-        requires high { depth ≤ 24 }
+        requires low { LEAST_DEPTH ≤ depth }
+        requires high { depth ≤ GREATEST_DEPTH }
         requires within { All (IsSample depth) samples.now }
         ensures { (all : List ℤ) (first place : ℕ) → first ≤ place
             → samples.now ≡ part all place (length samples.now)
@@ -129,8 +130,8 @@ impl Run {
 /// A sample, scaled to 24 bits.
 #[inline(always)]
 fn scaled_value(sample: i32, depth: u32) -> i64
-    requires low { 4 ≤ depth }
-    requires high { depth ≤ 24 }
+    requires low { LEAST_DEPTH ≤ depth }
+    requires high { depth ≤ GREATEST_DEPTH }
     requires within { IsSample depth sample }
     ensures value { result ≡ scaled depth sample }
     ensures small { unsigned_abs result ≤ 2 ^ 23 }
@@ -140,8 +141,8 @@ fn scaled_value(sample: i32, depth: u32) -> i64
 
 #[inline(always)]
 fn scale(depth: u32) -> i64
-    requires low { 4 ≤ depth }
-    requires high { depth ≤ 24 }
+    requires low { LEAST_DEPTH ≤ depth }
+    requires high { depth ≤ GREATEST_DEPTH }
     ensures { result ≡ pos (2 ^ (24 - depth)) }
 {
     (1u64 << (24 - depth)) as i64

@@ -1,15 +1,14 @@
 use Rattle.std.proofs.Common.{◌≡◌, ◌≤◌, ◌*◌, ◌^◌, ℕ, List, length, sym, ap, ◌∙◌, subst, arith, All}
-use Rattle.lib_base.specs.declared.limits.TheConstants.{GREATEST_ENERGY, BLOCK_SEGMENTS, WINDOW_SEGMENTS}
+use Rattle.lib_base.specs.declared.limits.TheConstants.{GREATEST_ENERGY, BLOCK_SEGMENTS, WINDOW_SEGMENTS, MOST_SEGMENTS}
 use Rattle.sound_model.specs.Blocks.{neighbour_sums}
 use Rattle.sound_model.specs.Loudness.{greatest}
 use Rattle.sound_model.proofs.AlbumLaws.{greatest-reaches}
 use Rattle.gate_blocks.proofs.Summing.{length-neighbour_sums}
-use Rattle.album_merge.specs.Bounds.{most_segments}
 use Rattle.album_merge.proofs.tallies.TrackTally.make.Goals as goal
 
 -- so many sums of neighbours are no more than the segments
-few_sums : (count : ℕ) (energies sums : List ℕ) → length energies ≤ most_segments → sums ≡ neighbour_sums count energies
-    → length sums ≤ most_segments
+few_sums : (count : ℕ) (energies sums : List ℕ) → length energies ≤ MOST_SEGMENTS → sums ≡ neighbour_sums count energies
+    → length sums ≤ MOST_SEGMENTS
 few_sums count energies sums few are = let same = ap length are in omega (arith, few, same, length-neighbour_sums count energies)
 
 -- each is no greater than the greatest
@@ -20,7 +19,7 @@ within_greatest sums slice most same is =
 pub invariant_of-result : goal.invariant_of-result
 invariant_of-result g c =
     let energies = c.args.measured.now.energies in
-    let segments : length energies ≤ most_segments = omega (arith, c.requires.count, c.requires.frames) in
+    let segments : length energies ≤ MOST_SEGMENTS = omega (arith, c.requires.count, c.requires.frames) in
     let few : length energies ≤ 2 ^ 25 = omega (arith, segments) in
     let blocks = c.in_ok-blocks.ensures.bounds (rw c.as_slice.ensures few) in
     let windows = c.in_ok-windows.ensures.bounds (rw c.as_slice-2.ensures few) in
