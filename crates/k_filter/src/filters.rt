@@ -7,7 +7,10 @@ ghost use Rattle.sound_model.specs.Weighted.{shelf, high_pass, next_output, held
 ghost use Rattle.k_filter.specs.Bounds.{IsWithin};
 
 use crate::sections::{Recent, high_pass_output, shelf_output};
-use lib_base::SAMPLE_RATE;
+use lib_base::{SAMPLE_RATE, scaled};
+
+/// How much finer the units of a sample are as it enters than those of 24 bits.
+const ENTERING: i64 = 1 << 16;
 
 /// The K-weighting filter of one channel, at 48,000 Hz.
 #[derive(Clone, Copy, Debug)]
@@ -87,16 +90,7 @@ fn entering_value(sample: i32, depth: u32) -> i64
     ensures value { result ≡ entering depth sample }
     ensures small { unsigned_abs result ≤ 2 ^ 39 }
 {
-    i64::from(sample) * scale(depth)
-}
-
-#[inline(always)]
-fn scale(depth: u32) -> i64
-    requires low { LEAST_DEPTH ≤ depth }
-    requires high { depth ≤ GREATEST_DEPTH }
-    ensures { result ≡ pos (2 ^ (24 - depth) * 2 ^ 16) }
-{
-    (1u64 << (40 - depth)) as i64
+    scaled(sample, depth) * ENTERING
 }
 
 /// An output as it leaves, in units of 2^-27 of full scale.

@@ -1,5 +1,5 @@
 -- Sounds as lists of samples.
-use Rattle.std.specs.Prelude.{◌≡◌, ◌≤◌, ◌<◌, ◌-◌, ◌^◌, ℕ, ℤ, pos, neg_ℤ, ◌≤ℤ◌, ◌<ℤ◌, List, [], length, take, drop, slice_index_or, All}
+use Rattle.std.specs.Prelude.{◌≡◌, ◌≤◌, ◌<◌, ◌-◌, ◌^◌, ℕ, ℤ, pos, neg_ℤ, ◌≤ℤ◌, ◌<ℤ◌, ◌*ℤ◌, List, [], length, take, drop, slice_index_or, All}
 use Rattle.lib_base.specs.declared.limits.TheConstants.{MOST_CHANNELS, LEAST_DEPTH, GREATEST_DEPTH}
 
 -- the elements of a list from `start` on, `count` of them
@@ -13,6 +13,10 @@ samples_of lists channel = slice_index_or lists channel []
 -- a signed sample of `depth` bits, in two's complement (Tech 3285; RFC 9639 section 3.1)
 abbrev pub IsSample : ℕ → ℤ → Type 0
 IsSample depth s = (neg_ℤ (pos (2 ^ (depth - 1))) ≤ℤ s) × (s <ℤ pos (2 ^ (depth - 1)))
+
+-- a sample scaled to the greatest depth
+unfoldable pub scaled : ℕ → ℤ → ℤ
+scaled depth sample = sample *ℤ pos (2 ^ (GREATEST_DEPTH - depth))
 
 -- one to six equally long lists, one for each channel, of samples within a depth from 4 to 24
 pub record IsSound (lists : List (List ℤ)) (depth frames : ℕ) : Type 0 where

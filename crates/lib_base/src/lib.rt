@@ -11,6 +11,7 @@ mod files;
 mod limits;
 mod outcomes;
 mod plans;
+mod samples;
 mod sinks;
 mod sounds;
 mod sources;
@@ -28,6 +29,7 @@ pub use limits::{
 };
 pub use outcomes::{Broken, Failed, Memory, Outside, Refused, Rule};
 pub use plans::FaultPlan;
+pub use samples::scaled;
 pub use sinks::{MemSink, Sink, write_all};
 pub use sounds::{PIECE, PcmSound, Scratch, Sound};
 pub use sources::{MemSource, ReadEnd, Source, Taken, read_up_to};
