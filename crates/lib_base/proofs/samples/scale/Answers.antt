@@ -1,7 +1,7 @@
 use Rattle.std.proofs.Common.{◌∙◌, pos, ap, arith, w64}
 use Rattle.std.proofs.lemmas.Int.{ints, to_z_pos}
-use Rattle.true_peak.proofs.Scales.{scale_shifted, scale_below}
-use Rattle.true_peak.proofs.runs.scale.Goals as goal
+use Rattle.lib_base.proofs.Scales.{scale_shifted, scale_below}
+use Rattle.lib_base.proofs.samples.scale.Goals as goal
 
 pub overflow_cast-result-2 : goal.overflow_cast-result-2
 overflow_cast-result-2 c = let below = scale_below c.args.depth c.requires.low in omega (arith, ints)

@@ -1,9 +1,8 @@
 use Rattle.std.proofs.Common.{◌∙◌, ◌≡◌, ◌≤◌, ◌^◌, ◌*ℤ◌, ℤ, subst, sym, rules, unsigned_abs, w32, w64, FitsSigned}
 use Rattle.std.proofs.lemmas.Int.{to_z-of_z}
-use Rattle.sound_model.specs.Peaks.{scaled}
-use Rattle.sound_model.proofs.PeakBounds.{scaled_small}
-use Rattle.true_peak.proofs.Scales.{scaled_is, scaled_fits}
-use Rattle.true_peak.proofs.runs.scaled_value.Goals as goal
+use Rattle.lib_base.specs.Sounds.{scaled}
+use Rattle.lib_base.proofs.Scales.{scaled_is, scaled_fits, scaled_small}
+use Rattle.lib_base.proofs.samples.scaled.Goals as goal
 
 same_product : (c : goal.After-scale) → c.from.result *ℤ c.scale.result ≡ scaled c.args.depth c.args.sample
 same_product c =
