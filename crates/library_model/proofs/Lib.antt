@@ -26,5 +26,15 @@ pub mod MadeStates
 pub mod ValidSteps
 pub mod Looking
 pub mod Fitting
+pub mod Members
+pub mod SegmentChanges
+pub mod Taking
+pub mod Leading
+pub mod RowsPut
+pub mod LeadsAlbums
+pub mod LeadsImport
+pub mod LeadsRetake
+pub mod LeadsRegroup
+pub mod LeadsRemove
 pub mod Refusing
 pub mod Closing
