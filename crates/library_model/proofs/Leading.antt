@@ -39,20 +39,23 @@ Ascends-albums [] rise = tt
 Ascends-albums (a ∷ albums) rise =
     (AllByRecursion-unmap (λ (row : AlbumRow). album_less (album_row a) row ≡ true) album_row albums rise.0, Ascends-albums albums rise.1)
 
+-- Of a state whose tables are in order, albums ascend.
+pub albums_rise : (u : State) → AreInOrder (tables_of u) → Ascends album_before u.albums
+albums_rise u are = Ascends-albums u.albums are.albums
+
 -- The tables of a state in order, whose files are found, have as measured what is measured of its sounds.
 pub measures_made : (u : State) → AreInOrder (tables_of u) → AllByRecursion IsFound u.recordings → Measures (tables_of u) u.recordings
 measures_made u are files = λ id. measured_in-members (tables_of u) id u.recordings (all_measured u are files)
 
 -- Changes that make the tables of such a state, closed by the rows of the albums whose recordings change, lead to it.
 pub leads_closed : (s u : State) (token mark : List ℕ) (wanted : Command) (changes : List Change) (ids : List ℕ) (rows : List AlbumRow)
-    (taken : List ℕ) (reply : Reply) (n : Tables) → Makes s u token wanted changes reply → AreInOrder (tables_of u) → Measures n u.recordings
+    (taken : List ℕ) (reply : Reply) (n : Tables) → Makes s u token wanted changes reply → Ascends album_before u.albums → Measures n u.recordings
     → AllByRecursion (ButFor ids (IsSummed u.recordings)) u.albums → AreResummed (map album_row u.albums) n ids rows
     → taken_out s u ≡ taken → Leads s token mark wanted (changes ++ closing rows token mark reply) taken reply
-leads_closed s u token mark wanted changes ids rows taken reply n made are measures others resummed out =
+leads_closed s u token mark wanted changes ids rows taken reply n made rise measures others resummed out =
     let albums : List Album = put_over rows u.albums in
     let resums : Resums u.recordings u.albums albums =
-    Resums-put_over u.recordings n ids rows u.albums u.albums measures (Alike-same u.albums) (Ascends-albums u.albums are.albums)
-    resummed others in
+    Resums-put_over u.recordings n ids rows u.albums u.albums measures (Alike-same u.albums) rise resummed others in
     let summed : State = with_albums u albums in
     let kept : Kept = kept_reply token mark reply in
     record {

@@ -6,7 +6,7 @@ use Rattle.keeper_store.specs.declared.contents.Change.TheVariants.{DropAlbum}
 use Rattle.keeper_store.specs.declared.row_types.AlbumRow.{AlbumRow}
 use Rattle.keeper_store.specs.declared.row_types.RecordingRow.{RecordingRow}
 use Rattle.keeper_store.proofs.Dropping.{AllByRecursion-without}
-use Rattle.keeper_store.proofs.Putting.{AllByRecursion-put}
+use Rattle.keeper_store.proofs.Putting.{AllByRecursion-put, Ascends-put}
 use Rattle.sound_model.specs.Albums.{IsAlbumSummary}
 use Rattle.library_model.specs.declared.messages.Command.TheVariants.{NewAlbum, RemoveAlbum}
 use Rattle.library_model.specs.declared.messages.Reply.{Reply}
@@ -19,10 +19,10 @@ use Rattle.library_model.specs.Names.{is_name}
 use Rattle.library_model.specs.RowRules.{has_album, is_in_album, member_count}
 use Rattle.library_model.specs.Stands.{IsSummed, IsValid, measured_all, members, recording_row, tables_of}
 use Rattle.library_model.specs.State.{Album, Recording, State, album_before, numbers_end}
-use Rattle.library_model.proofs.Closing.{ButFor}
+use Rattle.library_model.proofs.Closing.{ButFor, albums_before_in_order}
 use Rattle.library_model.proofs.Imports.{AllByRecursion-weaker}
 use Rattle.library_model.proofs.InOrderLemmas.{AllByRecursion-unmap}
-use Rattle.library_model.proofs.Leading.{Leads, Makes, leads_closed, measures_made}
+use Rattle.library_model.proofs.Leading.{Leads, Makes, albums_rise, leads_closed, measures_made}
 use Rattle.library_model.proofs.MadeStates.{made_files, made_in_order, none_in_next, row-there, tables_of-new_album, tables_of-removing_album}
 use Rattle.library_model.proofs.NextTables.{count_of-rows}
 use Rattle.library_model.proofs.Refusing.{of_limit, of_there}
@@ -48,18 +48,16 @@ no_levels-summed = record {
 }
 
 -- A new album, for which a number is left: its batch puts the counter and the album.
-pub new_album_leads : (s : State) (token mark name : List ℕ) → IsValid s → kept_under token s.replies ≡ None → is_name name ≡ true
+pub new_album_leads : (s : State) (token mark name : List ℕ) → IsValid s → kept_under token s.replies ≡ None
     → nat_le numbers_end s.next_album ≡ false
     → Leads s token mark (NewAlbum name)
     (new_album_batch (next_numbers (tables_of s)) (new_album_row (next_numbers (tables_of s)) name) token mark
     (album_row_reply 201 (new_album_row (next_numbers (tables_of s)) name) []))
     [] (album_row_reply 201 (new_album_row (next_numbers (tables_of s)) name) [])
-new_album_leads s token mark name valid fresh named left =
+new_album_leads s token mark name valid fresh left =
     let u : State = with_new_album s name in
     let row : AlbumRow = new_album_row (next_numbers (tables_of s)) name in
     let reply : Reply = album_row_reply 201 row [] in
-    let makes_it : MakesState s (NewAlbum name) u = (left, refl) in
-    let are : AreInOrder (tables_of u) = made_in_order s (NewAlbum name) u valid named makes_it in
     let made : Makes s u token (NewAlbum name) (new_album_changes (next_numbers (tables_of s)) row) reply = record {
       fresh = fresh;
       decides = λ v sums. of_limit (nat_le numbers_end s.next_album) Ids (makes (λ _. reply) u) v left sums;
@@ -70,8 +68,9 @@ new_album_leads s token mark name valid fresh named left =
     (AllByRecursion-unmap (λ (r : RecordingRow). is_in_album s.next_album r.album ≡ false) recording_row s.recordings (none_in_next s valid)) in
     let own : IsSummed s.recordings (new_album s name) =
     subst (λ (rs : List Recording). IsAlbumSummary (measured_all rs) no_levels) (sym none) no_levels-summed in
-    leads_closed s u token mark (NewAlbum name) (new_album_changes (next_numbers (tables_of s)) row) [] [] [] reply (tables_of u) made are
-    (measures_made u are (made_files s (NewAlbum name) u valid named makes_it))
+    leads_closed s u token mark (NewAlbum name) (new_album_changes (next_numbers (tables_of s)) row) [] [] [] reply (tables_of s) made
+    (Ascends-put album_before albums_before_in_order (new_album s name) s.albums (albums_rise s valid.rows))
+    (measures_made s valid.rows valid.files)
     (AllByRecursion-put (ButFor [] (IsSummed s.recordings)) album_before (new_album s name) s.albums (λ _. own)
     (AllByRecursion-weaker (IsSummed s.recordings) (ButFor [] (IsSummed s.recordings)) s.albums (λ a has _. has) valid.summed))
     tt (gone_none s.recordings s.recordings (own_takes s.recordings))
@@ -93,7 +92,7 @@ remove_album_leads s token mark id valid fresh there empty =
           (of_limit (nat_lt 0 (length (members id s.recordings))) NotEmpty (makes (λ _. removed_reply id) u) v none sums);
       rows = sym (tables_of-removing_album s id);
     } in
-    leads_closed s u token mark (RemoveAlbum id) (DropAlbum id ∷ []) [] [] [] (removed_reply id) (tables_of u) made are
+    leads_closed s u token mark (RemoveAlbum id) (DropAlbum id ∷ []) [] [] [] (removed_reply id) (tables_of u) made (albums_rise u are)
     (measures_made u are (made_files s (RemoveAlbum id) u valid tt makes_it))
     (AllByRecursion-without (ButFor [] (IsSummed s.recordings)) (λ (a : Album). a.id) id s.albums
     (AllByRecursion-weaker (IsSummed s.recordings) (ButFor [] (IsSummed s.recordings)) s.albums (λ a has _. has) valid.summed))

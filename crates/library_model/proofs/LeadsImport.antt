@@ -26,7 +26,7 @@ use Rattle.library_model.specs.State.{Recording, State, numbers_end, recording_b
 use Rattle.library_model.proofs.Closing.{ButFor, Measures, is_among}
 use Rattle.library_model.proofs.Fitting.{import_crowds}
 use Rattle.library_model.proofs.Imports.{AllByRecursion-both, AllByRecursion-weaker, given_of, tables_of-imported}
-use Rattle.library_model.proofs.Leading.{Leads, Makes, leads_closed, measures_made}
+use Rattle.library_model.proofs.Leading.{Leads, Makes, albums_rise, leads_closed, measures_made}
 use Rattle.library_model.proofs.MadeStates.{made_files, made_in_order, row-there}
 use Rattle.library_model.proofs.Members.{Resums-kept, ids_outside, members-put}
 use Rattle.library_model.proofs.Refusing.{of_limit, of_there}
@@ -92,7 +92,7 @@ import_leads s token mark album name file sound summary rows valid fresh named w
           (of_limit (nat_le numbers_end s.next_recording || nat_le numbers_end s.next_take) Ids (makes (λ _. reply) u) v left sums));
       rows = rows_are;
     } in
-    leads_closed s u token mark wanted (import_changes n (measured_of sound) row) (ids_in album) rows [] reply next made are
+    leads_closed s u token mark wanted (import_changes n (measured_of sound) row) (ids_in album) rows [] reply next made (albums_rise u are)
     (subst (λ (t : Tables). Measures t u.recordings) (sym rows_are)
     (measures_made u are (made_files s wanted u valid (named, within) makes_it)))
     (import_others s (new_recording s album name file sound summary) valid refl) resummed

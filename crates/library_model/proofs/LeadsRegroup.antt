@@ -24,12 +24,12 @@ use Rattle.library_model.specs.State.{Recording, State, recording_before}
 use Rattle.library_model.proofs.Closing.{ButFor, Measures, is_among}
 use Rattle.library_model.proofs.Fitting.{regroup_crowds}
 use Rattle.library_model.proofs.Imports.{AllByRecursion-both}
-use Rattle.library_model.proofs.Leading.{Leads, Makes, leads_closed, measures_made}
+use Rattle.library_model.proofs.Leading.{Leads, Makes, albums_rise, leads_closed, measures_made}
 use Rattle.library_model.proofs.Looking.{find_has, recording_there}
 use Rattle.library_model.proofs.MadeStates.{made_files, made_in_order, row-there}
 use Rattle.library_model.proofs.Members.{Resums-kept, all_found, members-put, moved_outside, only_found, put_found}
 use Rattle.library_model.proofs.Refusing.{of_found, of_limit, of_there}
-use Rattle.library_model.proofs.RowsPut.{recordings_rise}
+use Rattle.library_model.proofs.RowsPut.{crowds_same, recordings_rise}
 use Rattle.library_model.proofs.SegmentChanges.{segment_rows-same}
 use Rattle.library_model.proofs.Steps.{MakesState}
 use Rattle.library_model.proofs.Taking.{gone, gone_none, put_keeps_takes, put_own_take}
@@ -111,7 +111,7 @@ regroup_of s token mark id album r rows valid fresh found there room resummed =
           (of_limit (is_crowded album u.recordings) AlbumFull (makes (λ _. row_reply 200 row) u) v uncrowded sums));
       rows = rows_are;
     } in
-    leads_closed s u token mark wanted (PutRecording row ∷ []) (moved r.album album) rows [] (row_reply 200 row) next made are
+    leads_closed s u token mark wanted (PutRecording row ∷ []) (moved r.album album) rows [] (row_reply 200 row) next made (albums_rise u are)
     (subst (λ (t : Tables). Measures t u.recordings) (sym rows_are) (measures_made u are (made_files s wanted u valid tt makes_it)))
     (regroup_others s id album r valid found) resummed (regroup_takes s id album r valid found)
 
@@ -132,16 +132,11 @@ regroup_leads s token mark id album old rows valid fresh found there =
         [] (row_reply 200 (regroup_row q album)) in
     subst Of at.2 (regroup_of s token mark id album at.0 rows valid fresh at.1 there)
 
--- no album is crowded by a recording that it has
-crowds_same : (album : Option ℕ) (recordings : List RecordingRow) → crowds album album recordings ≡ false
-crowds_same None recordings = refl
-crowds_same (Some id) recordings = let same : (id == id) ≡ true = grind (arith, nat_tests) in rw same refl
-
--- A recording comes into the album that it is in, or out of none: its batch keeps the reply, and puts nothing else.
-pub regroup_same_leads : (s : State) (token mark : List ℕ) (id : ℕ) (old : RecordingRow) → IsValid s → kept_under token s.replies ≡ None
+-- a recording that stays in its album leads to the state with its reply kept
+regroup_stays : (s : State) (token mark : List ℕ) (id : ℕ) (old : RecordingRow) → IsValid s → kept_under token s.replies ≡ None
     → find (λ (row : RecordingRow). row.id == id) (tables_of s).recordings ≡ Some old
     → Leads s token mark (Regroup id old.album) (closing [] token mark (row_reply 200 old)) [] (row_reply 200 old)
-regroup_same_leads s token mark id old valid fresh found =
+regroup_stays s token mark id old valid fresh found =
     let at = recording_there s id old found in
     let r : Recording = at.0 in
     let there : album_is_there r.album (tables_of s).albums ≡ true =
@@ -165,8 +160,16 @@ regroup_same_leads s token mark id old valid fresh found =
     let Of : RecordingRow → Type 0 = λ q.
         Leads s token mark (Regroup id q.album) (closing [] token mark (row_reply 200 q)) [] (row_reply 200 q) in
     subst Of at.2
-    (leads_closed s u token mark wanted [] [] [] [] reply (tables_of u) made are
+    (leads_closed s u token mark wanted [] [] [] [] reply (tables_of u) made (albums_rise u are)
     (measures_made u are (made_files s wanted u valid tt makes_it))
     (Resums-kept s.recordings u.recordings [] s.albums
     (λ other _. ap (members other) (regrouped_same s id r.album r valid at.1 refl)) valid.summed) tt
     (regroup_takes s id r.album r valid at.1))
+
+-- A recording comes into the album that it is in, or out of none: its batch keeps the reply, and puts nothing else.
+pub regroup_same_leads : (s : State) (token mark : List ℕ) (id : ℕ) (album : Option ℕ) (old : RecordingRow) → IsValid s
+    → kept_under token s.replies ≡ None → find (λ (row : RecordingRow). row.id == id) (tables_of s).recordings ≡ Some old → old.album ≡ album
+    → Leads s token mark (Regroup id album) (closing [] token mark (row_reply 200 old)) [] (row_reply 200 old)
+regroup_same_leads s token mark id album old valid fresh found same =
+    subst (λ (a : Option ℕ). Leads s token mark (Regroup id a) (closing [] token mark (row_reply 200 old)) [] (row_reply 200 old)) same
+    (regroup_stays s token mark id old valid fresh found)

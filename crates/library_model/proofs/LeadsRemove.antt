@@ -20,7 +20,7 @@ use Rattle.library_model.specs.RowRules.{is_in_album}
 use Rattle.library_model.specs.Stands.{IsSummed, IsValid, recording_row, segment_rows, tables_of}
 use Rattle.library_model.specs.State.{Recording, State}
 use Rattle.library_model.proofs.Closing.{ButFor, Measures}
-use Rattle.library_model.proofs.Leading.{Leads, Makes, leads_closed, measures_made}
+use Rattle.library_model.proofs.Leading.{Leads, Makes, albums_rise, leads_closed, measures_made}
 use Rattle.library_model.proofs.Looking.{recording_there}
 use Rattle.library_model.proofs.MadeStates.{made_files, made_in_order}
 use Rattle.library_model.proofs.Members.{Resums-kept, all_found, ids_outside, members-without}
@@ -77,7 +77,7 @@ remove_of s token mark id r rows valid fresh found resummed =
       decides = λ v sums. of_found (recording_of id s.recordings) r (λ q. Sums (remove_step s q)) v found sums;
       rows = rows_are;
     } in
-    leads_closed s u token mark wanted changes (ids_in r.album) rows (r.take ∷ []) (removed_reply r.id) next made are
+    leads_closed s u token mark wanted changes (ids_in r.album) rows (r.take ∷ []) (removed_reply r.id) next made (albums_rise u are)
     (Measures-drop next r.take u.recordings (frees_without s id r valid found)
     (subst (λ (t : Tables). Measures t u.recordings) (sym rows_are) (measures_made u are (made_files s wanted u valid tt makes_it))))
     (remove_others s id r valid found) resummed (remove_takes s id r valid found)

@@ -27,7 +27,7 @@ use Rattle.library_model.specs.RowRules.{is_in_album}
 use Rattle.library_model.specs.Stands.{IsSummed, IsValid, IsWithinLimit, album_row, recording_row, reply_row, segment_row, segment_rows, tables_of}
 use Rattle.library_model.specs.State.{Recording, State, numbers_end, recording_before}
 use Rattle.library_model.proofs.Closing.{ButFor, Measures}
-use Rattle.library_model.proofs.Leading.{Leads, Makes, leads_closed, measures_made}
+use Rattle.library_model.proofs.Leading.{Leads, Makes, albums_rise, leads_closed, measures_made}
 use Rattle.library_model.proofs.Looking.{recording_there}
 use Rattle.library_model.proofs.MadeStates.{made_files, made_in_order}
 use Rattle.library_model.proofs.Members.{Resums-kept, all_found, ids_outside, members-put}
@@ -111,7 +111,7 @@ retake_of s token mark id r file sound summary rows valid fresh within found fin
       rows = rows_are;
     } in
     leads_closed s u token mark wanted (retake_changes n (measured_of sound) row ++ DropSegments r.take ∷ []) (ids_in r.album) rows (r.take ∷ [])
-    (row_reply 200 row) next made are
+    (row_reply 200 row) next made (albums_rise u are)
     (Measures-drop next r.take u.recordings (frees_put s id r row valid found refl differs)
     (subst (λ (t : Tables). Measures t u.recordings) (sym rows_are) (measures_made u are (made_files s wanted u valid within makes_it))))
     (retake_others s id r new valid found refl refl) resummed (retake_takes s id r new valid found refl differs)
