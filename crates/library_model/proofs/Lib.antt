@@ -29,6 +29,8 @@ pub mod Fitting
 pub mod Members
 pub mod SegmentChanges
 pub mod Taking
+pub mod TakesOut
+pub mod Statuses
 pub mod Leading
 pub mod RowsPut
 pub mod LeadsAlbums
