@@ -7,6 +7,7 @@ pub mod Measuring
 pub mod Verdicts
 pub mod RowBounds
 pub mod Rows
+pub mod WorkedSteps
 pub mod WorkedRules
 pub mod WaveFiles
 pub mod SegmentRows
@@ -21,6 +22,7 @@ pub mod Exits
 pub mod Steps
 pub mod Resummed
 pub mod NextTables
+pub mod Numbers
 pub mod Counting
 pub mod MadeStates
 pub mod ValidSteps
@@ -29,6 +31,7 @@ pub mod Fitting
 pub mod Members
 pub mod SegmentChanges
 pub mod Taking
+pub mod TakesGone
 pub mod TakesOut
 pub mod Statuses
 pub mod Leading

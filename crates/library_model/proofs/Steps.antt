@@ -1,5 +1,5 @@
 -- What an accepted command makes.
-use Rattle.std.proofs.Common.{◌≡◌, ◌||◌, ℕ, Bool, true, false, nat_le, nat_lt, Option, None, Some, List, [], length, inl, inr, refl, sym, ap, ◌∙◌, subst}
+use Rattle.std.proofs.Common.{◌≡◌, ◌||◌, Bool, true, false, nat_le, nat_lt, Option, None, Some, List, [], length, inl, inr, refl, ap, ◌∙◌, subst}
 use Rattle.lib_base.specs.declared.files.Summary.{Summary}
 use Rattle.file_model.specs.Pcm.{Pcm}
 use Rattle.library_model.specs.declared.messages.Command.{Command}
@@ -10,7 +10,7 @@ use Rattle.library_model.specs.declared.refusals.Refusal.TheVariants.{NotEmpty, 
 use Rattle.library_model.specs.Bodies.{removed_reply}
 use Rattle.library_model.specs.Findings.{Finding, Finds, broken_by, measured}
 use Rattle.library_model.specs.InOrder.{IsKeptStatus}
-use Rattle.library_model.specs.Machine.{DecidesCommand, OfAlbum, OfFile, OfRecording, Step, Sums, Verdict, accepts, album_reply, import_step, imported, is_crowded, is_there, makes, new_album, new_recording, recording_of, recording_reply, refuses, regroup_step, regrouped, regrouping, remove_step, removing, removing_album, retake_step, retaken, retaking, state_after, unless, with_new_album}
+use Rattle.library_model.specs.Machine.{DecidesCommand, OfAlbum, OfFile, OfRecording, Step, Sums, Verdict, accepts, album_reply, import_step, imported, is_crowded, is_there, makes, new_album, new_recording, recording_of, recording_reply, regroup_step, regrouped, regrouping, remove_step, removing, removing_album, retake_step, retaken, retaking, state_after, unless, with_new_album}
 use Rattle.library_model.specs.Stands.{Resums, members}
 use Rattle.library_model.specs.State.{Album, Recording, State, numbers_end}
 

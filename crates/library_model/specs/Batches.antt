@@ -1,5 +1,5 @@
 -- What commands change in the tables: the rows that they put, and their batches.
-use Rattle.std.specs.Prelude.{◌≡◌, ◌+◌, ◌==◌, ◌&&◌, not, ℕ, Bool, true, false, List, [], ◌∷◌, ◌++◌, map, nat_le, nat_lt, Option, None, Some, if◌then◌else◌, ⊤}
+use Rattle.std.specs.Prelude.{◌≡◌, ◌+◌, ◌==◌, ◌&&◌, not, ℕ, Bool, false, List, [], ◌∷◌, ◌++◌, map, nat_le, nat_lt, Option, None, Some, if◌then◌else◌, ⊤}
 use Rattle.std.specs.List.{find}
 use Rattle.md5.specs.Md5.{md5}
 use Rattle.lib_base.specs.declared.files.Measured.{Measured}
