@@ -1,9 +1,0 @@
-pub mod Acting
-pub mod DigitLemmas
-pub mod Ending
-pub mod FieldLemmas
-pub mod FramingLemmas
-pub mod Goings
-pub mod NumberLemmas
-pub mod ServingLemmas
-pub mod SpellingLemmas
