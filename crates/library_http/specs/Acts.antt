@@ -1,5 +1,5 @@
 -- What answering requests does to the library, the keeper and the vault.
-use Rattle.std.specs.Prelude.{◌≡◌, ◌≢◌, ◌+◌, ◌⊎◌, ℕ, true, List, [], ◌∷◌, Option, None, Some}
+use Rattle.std.specs.Prelude.{◌≡◌, ◌≢◌, ◌<◌, ◌+◌, ◌⊎◌, ℕ, true, List, [], ◌∷◌, Option, None, Some}
 use Rattle.std.specs.List.{AllByRecursion}
 use Rattle.lib_base.specs.Faults.{Rose}
 use Rattle.keeper_store.specs.Blobs.{Blobs}
@@ -44,6 +44,11 @@ pub record Counts (exchanges : List Exchange) (released : List ℕ) (before now 
 abbrev pub OtherKeysKept : ℕ → List ℕ → Blobs → Blobs → Type 0
 OtherKeysKept key released old new =
     (other : ℕ) → other ≢ key → AllByRecursion (λ take. other ≢ take) released → new other ≡ old other
+
+-- every key below the next one that is none of these holds what it held
+abbrev pub OldKeysKept : ℕ → List ℕ → Blobs → Blobs → Type 0
+OldKeysKept next released old new =
+    (key : ℕ) → key < next → AllByRecursion (λ take. key ≢ take) released → new key ≡ old key
 
 -- a request was answered as it is decided, or memory was wanting
 abbrev pub IsSettled : State → Asked → Reply → State → Type 0

@@ -5,6 +5,7 @@ use Rattle.std.specs.Io.KnownBytes.{Appends, Consumes}
 use Rattle.lib_base.specs.Faults.{CountsFault}
 use Rattle.lib_base.specs.Sources.{SourceView}
 use Rattle.lib_base.specs.Writes.{SinkView}
+use Rattle.keeper_store.specs.Goes.{Goes}
 use Rattle.library_model.specs.Asked.{Asked, spares_vault}
 use Rattle.library_model.specs.Exchanges as machine
 use Rattle.library_model.specs.Exchanges.{Answers, requests_of}
@@ -17,7 +18,7 @@ use Rattle.http_model.specs.Requests.{AreRequests, IsFront, End, ended, turns, u
 use Rattle.http_inbox.specs.Inboxes.{Covers}
 use Rattle.library_http.specs.declared.serving.How.{How}
 use Rattle.library_http.specs.declared.serving.How.TheVariants.{Ended, Turns, Unframeable, SourceFault, SinkFault, Memory}
-use Rattle.library_http.specs.Acts.{ActInTurn, Counts, Leads}
+use Rattle.library_http.specs.Acts.{ActInTurn, Counts, Leads, OldKeysKept}
 use Rattle.library_http.specs.World.{World, KeepsFaults}
 
 -- ---- what was done to the library
@@ -30,7 +31,8 @@ pub record AreReleased (last : State) (takes : List ℕ) : Type 0 where
 -- The exchanges were made, each from the state that the one before left, from `start` to the last state, which the library keeps, and
 -- which tables and files are those of where they were those of `start`. The released takes are those that the requests took out. Each
 -- reply `Vault` and each released key that holds something is one by which the vault's count rose; each reply `Keeper` one by which the
--- keeper's did. Where all requests spare the vault, it was not called.
+-- keeper's did. The keys of takes that were given before, and are not released, hold what they held. Where all requests spare the vault,
+-- it was not called.
 pub record Made (start : State) (exchanges : List machine.Exchange) (before now : World) : Type 0 where
   pub last : State
   pub released : List ℕ
@@ -38,6 +40,7 @@ pub record Made (start : State) (exchanges : List machine.Exchange) (before now 
   pub leads : Leads start last before now
   pub takes : AreReleased last released
   pub counts : Counts exchanges released before now
+  pub keys : Goes (OldKeysKept start.next_take released) before.vault.blobs now.vault.blobs
   pub calls : AllByRecursion (λ (asked : Asked). spares_vault asked ≡ true) (requests_of exchanges)
       → now.vault.calls ≡ before.vault.calls
   pub in_turn : ActInTurn start exchanges last before now
