@@ -10,8 +10,9 @@ use Rattle.library_model.specs.declared.refusals.Refusal.TheVariants as cause
 use Rattle.library_model.specs.Replies.{refusal}
 use Rattle.library_model.specs.State.{State}
 use Rattle.http_model.specs.Asking.{asked_of}
-use Rattle.http_model.specs.Exchanges.{spelled_to}
-use Rattle.http_model.specs.Requests.{Framed, Frames, closes}
+use Rattle.http_model.specs.declared.refusals.FramingRefusal.{FramingRefusal}
+use Rattle.http_model.specs.Exchanges.{spelled_to, ending}
+use Rattle.http_model.specs.Requests.{Framed, Frames, closes, unframeable}
 use Rattle.catalogue_core.specs.Kept.{Keeps}
 use Rattle.library_http.specs.declared.serving.How.{How}
 use Rattle.library_http.specs.declared.serving.How.TheVariants as how
@@ -93,3 +94,12 @@ pub record SoFar (most more : ℕ) (start : State) (answered : ℕ) (held : List
   pub goes : (end : How) (count : ℕ) (source_end : SourceView) (sink_end : SinkView) (at_end : World)
       → Serves held more state end count source_now source_end sink_now sink_end now at_end
       → Session most start end (answered + count) source_before source_end sink_before sink_end before at_end
+
+-- what writing the refusal that ends a session does, which ends so
+abbrev pub RefusesBy : How → FramingRefusal → SinkView → SinkView → Type 0
+RefusesBy how.Unframeable refusal sink_before sink_now = Appends sink_before.written sink_now.written (ending (unframeable refusal))
+RefusesBy how.SinkFault refusal sink_before sink_now = AppendsPart sink_before.written sink_now.written (ending (unframeable refusal))
+RefusesBy how.Memory refusal sink_before sink_now = AppendsPart sink_before.written sink_now.written (ending (unframeable refusal))
+RefusesBy how.Ended refusal sink_before sink_now = ⊥
+RefusesBy how.Turns refusal sink_before sink_now = ⊥
+RefusesBy how.SourceFault refusal sink_before sink_now = ⊥

@@ -23,3 +23,4 @@ pub mod Resummed
 pub mod NextTables
 pub mod MadeStates
 pub mod ValidSteps
+pub mod TakesOut
