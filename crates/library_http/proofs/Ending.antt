@@ -3,9 +3,10 @@ use Rattle.std.proofs.Common.{◌≡◌, ◌≢◌, ◌⊎◌, inl, inr, ℕ, �
 use Rattle.std.specs.Io.KnownBytes.{Appends, IsAtEnd}
 use Rattle.std.proofs.KnownBytes.{Appends-trans}
 use Rattle.library_model.specs.declared.messages.Reply.{Reply}
-use Rattle.http_model.specs.Exchanges.{Exchange, exchange, framed_all, spelled_of, spelled_to, spelled_all, ending, output}
+use Rattle.http_model.specs.Exchanges.{Exchange, exchange, requests_of, spelled_of, spelled_to, spelled_all, ending, output}
 use Rattle.http_model.specs.Requests.{AreRequests, End, Framed, Frames, IsFront, closes, ended, turns, unframeable}
-use Rattle.http_model.proofs.RunLaws.{AreRequests-cons, IsFront-cons}
+use Rattle.http_model.specs.Refusals.{framing_refusal}
+use Rattle.library_http.proofs.Fronts.{AreRequests-cons, IsFront-cons}
 use Rattle.http_inbox.specs.Inboxes.{Covers}
 use Rattle.library_http.specs.declared.serving.How.{How}
 use Rattle.library_http.specs.declared.serving.How.TheVariants.{Ended, Turns, Unframeable, SourceFault, SinkFault, Memory}
@@ -54,7 +55,7 @@ whole_cons : (most : ℕ) (end : End) (answered : ℕ) (left : Option (List ℕ)
     → Appends old mid (spelled_to q reply) → Whole most end answered left behind exchanges mid new
     → Whole (suc most) end (suc answered) left input (exchange q reply ∷ exchanges) old new
 whole_cons most end answered left input behind q reply exchanges old mid new precedes stays written whole = record {
-  requests = requests_cons most end left input behind q (framed_all exchanges) precedes stays whole.requests;
+  requests = requests_cons most end left input behind q (requests_of exchanges) precedes stays whole.requests;
   counted = ap suc whole.counted;
   written = subst (Appends old new) (sym (append_assoc (spelled_to q reply) (spelled_all exchanges) (ending end)))
       (Appends-trans old mid new (spelled_to q reply) (output exchanges end) written whole.written);
@@ -66,7 +67,7 @@ cut_cons : (most answered : ℕ) (input behind : List ℕ) (q : Framed) (reply :
     → CutShort (suc most) (suc answered) input (exchange q reply ∷ exchanges) old new
 cut_cons most answered input behind q reply exchanges old mid new precedes stays written cut = record {
   end = cut.end;
-  requests = AreRequests-cons most input behind q (framed_all exchanges) cut.end (frames_now input behind q precedes) stays cut.requests;
+  requests = AreRequests-cons most input behind q (requests_of exchanges) cut.end (frames_now input behind q precedes) stays cut.requests;
   counted = ap suc cut.counted;
   written = Appends-trans old mid new (spelled_to q reply) (spelled_all exchanges) written cut.written;
 }
@@ -79,7 +80,7 @@ breaks_cons most answered left input behind q reply exchanges old mid new preced
   whole = exchange q reply ∷ breaks.whole;
   last = breaks.last;
   are = ap (λ (es : List Exchange). exchange q reply ∷ es) breaks.are;
-  requests = front_cons most left input behind q (framed_all exchanges) precedes stays breaks.requests;
+  requests = front_cons most left input behind q (requests_of exchanges) precedes stays breaks.requests;
   counted = ap suc breaks.counted;
   written = Appends-part old mid new (spelled_to q reply) (spelled_all breaks.whole) (spelled_of breaks.last) written breaks.written;
 }
@@ -89,10 +90,10 @@ breaks_at_end_cons : (most answered : ℕ) (left : Option (List ℕ)) (input beh
     → Appends old mid (spelled_to q reply) → BreaksOffAtEnd most answered left behind exchanges mid new
     → BreaksOffAtEnd (suc most) (suc answered) left input (exchange q reply ∷ exchanges) old new
 breaks_at_end_cons most answered left input behind q reply exchanges old mid new precedes stays written breaks = record {
-  refusal = breaks.refusal;
-  requests = requests_cons most (unframeable breaks.refusal) left input behind q (framed_all exchanges) precedes stays breaks.requests;
+  cause = breaks.cause;
+  requests = requests_cons most (unframeable (framing_refusal breaks.cause)) left input behind q (requests_of exchanges) precedes stays breaks.requests;
   counted = ap suc breaks.counted;
-  written = Appends-part old mid new (spelled_to q reply) (spelled_all exchanges) (ending (unframeable breaks.refusal)) written breaks.written;
+  written = Appends-part old mid new (spelled_to q reply) (spelled_all exchanges) (ending (unframeable (framing_refusal breaks.cause))) written breaks.written;
 }
 
 unread_cons : (most answered : ℕ) (left : Option (List ℕ)) (input behind : List ℕ) (q : Framed) (reply : Reply)
@@ -100,7 +101,7 @@ unread_cons : (most answered : ℕ) (left : Option (List ℕ)) (input behind : L
     → Appends old mid (spelled_to q reply) → Unread most answered left behind exchanges mid new
     → Unread (suc most) (suc answered) left input (exchange q reply ∷ exchanges) old new
 unread_cons most answered left input behind q reply exchanges old mid new precedes stays written unread = record {
-  requests = front_cons most left input behind q (framed_all exchanges) precedes stays unread.requests;
+  requests = front_cons most left input behind q (requests_of exchanges) precedes stays unread.requests;
   counted = ap suc unread.counted;
   written = Appends-trans old mid new (spelled_to q reply) (spelled_all exchanges) written unread.written;
 }
@@ -115,7 +116,7 @@ EndsAs-cons Ended most answered left input behind q reply exchanges old mid new 
 EndsAs-cons Turns most answered left input behind q reply exchanges old mid new precedes stays written ends =
     whole_cons most turns answered left input behind q reply exchanges old mid new precedes stays written ends
 EndsAs-cons Unframeable most answered left input behind q reply exchanges old mid new precedes stays written ends =
-    (ends.0, whole_cons most (unframeable ends.0) answered left input behind q reply exchanges old mid new precedes stays written ends.1)
+    (ends.0, whole_cons most (unframeable (framing_refusal ends.0)) answered left input behind q reply exchanges old mid new precedes stays written ends.1)
 EndsAs-cons SourceFault most answered left input behind q reply exchanges old mid new precedes stays written ends =
     cut_cons most answered input behind q reply exchanges old mid new precedes stays written ends
 EndsAs-cons SinkFault most answered left input behind q reply exchanges old mid new precedes stays written (inl ends) =

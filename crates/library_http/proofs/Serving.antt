@@ -7,11 +7,12 @@ use Rattle.lib_base.specs.Writes.{AppendsPart, SinkView}
 use Rattle.library_model.specs.declared.messages.Reply.{Reply}
 use Rattle.library_model.specs.State.{State}
 use Rattle.http_model.specs.Asking.{asked_of}
-use Rattle.http_model.specs.Exchanges.{Exchange, exchange, asked_all, framed_all, spelled_of, spelled_to, spelled_all, ending, output}
+use Rattle.http_model.specs.Exchanges.{Exchange, exchange, answered_all, requests_of, spelled_of, spelled_to, spelled_all, ending, output}
 use Rattle.http_model.specs.Requests.{AreRequests, End, Framed, Frames, IsFront, IsUnframeable, closes, ended, turns, unframeable}
 use Rattle.http_model.specs.declared.refusals.FramingRefusal.{FramingRefusal}
 use Rattle.http_model.specs.declared.refusals.FramingRefusal.TheVariants.{Frame}
-use Rattle.http_model.proofs.RunLaws.{AreRequests-closing, AreRequests-refused, AreRequests-none, AreRequests-turns, IsFront-none, IsFront-one}
+use Rattle.http_model.specs.Refusals.{framing_refusal}
+use Rattle.library_http.proofs.Fronts.{AreRequests-closing, AreRequests-refused, AreRequests-none, AreRequests-turns, IsFront-one}
 use Rattle.http_inbox.specs.Inboxes.{Covers}
 use Rattle.catalogue_core.specs.Kept.{Keeps}
 use Rattle.library_http.specs.declared.serving.How.{How}
@@ -51,7 +52,7 @@ Serves-cons s most how answered held held_now source0 source1 source2 sink0 sink
       taken = finds.taken ++ serves.taken;
       content = Consumes-trans source0.left source1.left source2.left finds.taken serves.taken finds.content serves.content;
       exchanges = exchange q reply ∷ serves.exchanges;
-      made = Made-cons s (asked_of q) reply (asked_all serves.exchanges) w0 w1 w2 keeps goes.replied.acts serves.made;
+      made = Made-cons s (asked_of q) reply (answered_all serves.exchanges) w0 w1 w2 keeps goes.replied.acts serves.made;
       ends = EndsAs-cons how most answered source2.left (held ++ (finds.taken ++ serves.taken)) (held_now ++ serves.taken) q reply
           serves.exchanges sink0.written sink1.written sink2.written
           (found_first held held_now serves.taken source0 source1 finds) goes.stays goes.replied.written serves.ends;
@@ -173,17 +174,17 @@ pub Serves-refused : (s : State) (more : ℕ) (how : How) (refusal : FramingRefu
 Serves-refused s more how refusal held taken source0 source1 sink0 sink1 w keeps content unframed refuses =
     serves_none s (suc more) how held taken source0 source1 sink0 sink1 w keeps content (by_how how refuses)
   where
-    requests : Covers source1.left (held ++ taken) (λ bytes. AreRequests (suc more) bytes [] (unframeable refusal))
+    requests : Covers source1.left (held ++ taken) (λ bytes. AreRequests (suc more) bytes [] (unframeable (framing_refusal refusal)))
     requests = Covers-weaker source1.left (held ++ taken) (held ++ taken) (λ bytes. IsUnframeable bytes refusal)
-        (λ bytes. AreRequests (suc more) bytes [] (unframeable refusal))
+        (λ bytes. AreRequests (suc more) bytes [] (unframeable (framing_refusal refusal)))
         (λ rest is. AreRequests-refused more ((held ++ taken) ++ rest) refusal is) unframed
-    breaks : AppendsPart sink0.written sink1.written (ending (unframeable refusal))
+    breaks : AppendsPart sink0.written sink1.written (ending (unframeable (framing_refusal refusal)))
         → BreaksOffAtEnd (suc more) 0 source1.left (held ++ taken) [] sink0.written sink1.written
     breaks part = record {
-      refusal = refusal;
+      cause = refusal;
       requests = requests;
       counted = refl;
-      written = Appends-part_only sink0.written sink0.written sink1.written [] (ending (unframeable refusal)) (Appends-nil sink0.written) part;
+      written = Appends-part_only sink0.written sink0.written sink1.written [] (ending (unframeable (framing_refusal refusal))) (Appends-nil sink0.written) part;
     }
     by_how : (how : How) → RefusesBy how refusal sink0 sink1
         → EndsAs how (suc more) 0 source1.left (held ++ taken) [] sink0.written sink1.written
@@ -206,14 +207,14 @@ Serves-fault s more held taken source0 source1 sink w keeps content cut =
     cut_at end are = record { end = end; requests = are; counted = refl; written = Appends-nil sink.written }
     by_case : (held ++ taken ≡ []) ⊎ IsUnframeable (held ++ taken) Frame → CutShort (suc more) 0 (held ++ taken) [] sink.written sink.written
     by_case (inl none) = cut_at ended (AreRequests-none (suc more) (held ++ taken) none)
-    by_case (inr is) = cut_at (unframeable Frame) (AreRequests-refused more (held ++ taken) Frame is)
+    by_case (inr is) = cut_at (unframeable (framing_refusal Frame)) (AreRequests-refused more (held ++ taken) Frame is)
 
 -- No memory was found to read on.
 pub Serves-unread : (s : State) (most : ℕ) (held taken : List ℕ) (source0 source1 : SourceView) (sink : SinkView) (w : World)
     → Keeps w.library s → Consumes source0.left source1.left taken → Serves held most s Memory 0 source0 source1 sink sink w w
 Serves-unread s most held taken source0 source1 sink w keeps content =
     serves_none s most Memory held taken source0 source1 sink sink w keeps content (inr (inr (record {
-      requests = inr (λ rest. IsFront-none most ((held ++ taken) ++ rest));
+      requests = inr (λ rest. tt);
       counted = refl;
       written = Appends-nil sink.written;
     })))

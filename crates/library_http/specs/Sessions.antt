@@ -8,12 +8,14 @@ use Rattle.lib_base.specs.Writes.{SinkView}
 use Rattle.keeper_store.specs.Goes.{Goes}
 use Rattle.library_model.specs.Asked.{Asked, spares_vault}
 use Rattle.library_model.specs.Exchanges as machine
-use Rattle.library_model.specs.Exchanges.{Answers, requests_of}
+use Rattle.library_model.specs.Exchanges.{Answers}
 use Rattle.library_model.specs.InOrder.{Differ}
 use Rattle.library_model.specs.Machine.{has_take}
 use Rattle.library_model.specs.State.{State}
 use Rattle.http_model.specs.declared.refusals.FramingRefusal.{FramingRefusal}
-use Rattle.http_model.specs.Exchanges.{Exchange, asked_all, framed_all, spelled_of, spelled_all, ending, output}
+use Rattle.http_model.specs.Exchanges as wire
+use Rattle.http_model.specs.Exchanges.{Exchange, answered_all, spelled_of, spelled_all, ending, output}
+use Rattle.http_model.specs.Refusals.{framing_refusal}
 use Rattle.http_model.specs.Requests.{AreRequests, IsFront, End, ended, turns, unframeable}
 use Rattle.http_inbox.specs.Inboxes.{Covers}
 use Rattle.library_http.specs.declared.serving.How.{How}
@@ -41,7 +43,7 @@ pub record Made (start : State) (exchanges : List machine.Exchange) (before now 
   pub takes : AreReleased last released
   pub counts : Counts exchanges released before now
   pub keys : Goes (OldKeysKept start.next_take released) before.vault.blobs now.vault.blobs
-  pub calls : AllByRecursion (λ (asked : Asked). spares_vault asked ≡ true) (requests_of exchanges)
+  pub calls : AllByRecursion (λ (asked : Asked). spares_vault asked ≡ true) (machine.requests_of exchanges)
       → now.vault.calls ≡ before.vault.calls
   pub in_turn : ActInTurn start exchanges last before now
 
@@ -55,14 +57,14 @@ AppendsInPart others text old new =
 -- All the requests of the input were answered, which ends so. Their replies were written, and then what that end has.
 pub record Whole (most : ℕ) (end : End) (answered : ℕ) (left : Option (List ℕ)) (input : List ℕ) (exchanges : List Exchange)
     (old new : Option (List ℕ)) : Type 0 where
-  pub requests : Covers left input (λ bytes. AreRequests most bytes (framed_all exchanges) end)
+  pub requests : Covers left input (λ bytes. AreRequests most bytes (wire.requests_of exchanges) end)
   pub counted : answered ≡ length exchanges
   pub written : Appends old new (output exchanges end)
 
 -- The bytes that were taken, as they stand, are these requests, and the replies to them were written.
 pub record CutShort (most answered : ℕ) (input : List ℕ) (exchanges : List Exchange) (old new : Option (List ℕ)) : Type 0 where
   pub end : End
-  pub requests : AreRequests most input (framed_all exchanges) end
+  pub requests : AreRequests most input (wire.requests_of exchanges) end
   pub counted : answered ≡ length exchanges
   pub written : Appends old new (spelled_all exchanges)
 
@@ -72,22 +74,22 @@ pub record BreaksOff (most answered : ℕ) (left : Option (List ℕ)) (input : L
   pub whole : List Exchange
   pub last : Exchange
   pub are : exchanges ≡ whole ++ last ∷ []
-  pub requests : Covers left input (λ bytes. IsFront most bytes (framed_all exchanges))
+  pub requests : Covers left input (λ bytes. IsFront most bytes (wire.requests_of exchanges))
   pub counted : answered ≡ length whole
   pub written : AppendsInPart (spelled_all whole) (spelled_of last) old new
 
 -- All the requests of the input were answered, and a part of the refusal that ends it was written.
 pub record BreaksOffAtEnd (most answered : ℕ) (left : Option (List ℕ)) (input : List ℕ) (exchanges : List Exchange)
     (old new : Option (List ℕ)) : Type 0 where
-  pub refusal : FramingRefusal
-  pub requests : Covers left input (λ bytes. AreRequests most bytes (framed_all exchanges) (unframeable refusal))
+  pub cause : FramingRefusal
+  pub requests : Covers left input (λ bytes. AreRequests most bytes (wire.requests_of exchanges) (unframeable (framing_refusal cause)))
   pub counted : answered ≡ length exchanges
-  pub written : AppendsInPart (spelled_all exchanges) (ending (unframeable refusal)) old new
+  pub written : AppendsInPart (spelled_all exchanges) (ending (unframeable (framing_refusal cause))) old new
 
 -- The requests at the front of the input were answered, and their replies were written. No memory was found to read on.
 pub record Unread (most answered : ℕ) (left : Option (List ℕ)) (input : List ℕ) (exchanges : List Exchange)
     (old new : Option (List ℕ)) : Type 0 where
-  pub requests : Covers left input (λ bytes. IsFront most bytes (framed_all exchanges))
+  pub requests : Covers left input (λ bytes. IsFront most bytes (wire.requests_of exchanges))
   pub counted : answered ≡ length exchanges
   pub written : Appends old new (spelled_all exchanges)
 
@@ -97,7 +99,7 @@ abbrev pub EndsAs : How → (most answered : ℕ) → Option (List ℕ) → List
 EndsAs Ended most answered left input exchanges old new = Whole most ended answered left input exchanges old new
 EndsAs Turns most answered left input exchanges old new = Whole most turns answered left input exchanges old new
 EndsAs Unframeable most answered left input exchanges old new =
-    (refusal : FramingRefusal) × Whole most (unframeable refusal) answered left input exchanges old new
+    (cause : FramingRefusal) × Whole most (unframeable (framing_refusal cause)) answered left input exchanges old new
 EndsAs SourceFault most answered left input exchanges old new = CutShort most answered input exchanges old new
 EndsAs SinkFault most answered left input exchanges old new =
     BreaksOff most answered left input exchanges old new ⊎ BreaksOffAtEnd most answered left input exchanges old new
@@ -111,7 +113,7 @@ pub record Serves (held : List ℕ) (most : ℕ) (start : State) (how : How) (an
   pub taken : List ℕ
   pub content : Consumes source_before.left source_now.left taken
   pub exchanges : List Exchange
-  pub made : Made start (asked_all exchanges) before now
+  pub made : Made start (answered_all exchanges) before now
   pub ends : EndsAs how most answered source_now.left (held ++ taken) exchanges sink_before.written sink_now.written
 
 -- What a session of at most so many requests does that ends so: its input is what was taken from the source.

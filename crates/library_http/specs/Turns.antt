@@ -12,6 +12,7 @@ use Rattle.library_model.specs.State.{State}
 use Rattle.http_model.specs.Asking.{asked_of}
 use Rattle.http_model.specs.declared.refusals.FramingRefusal.{FramingRefusal}
 use Rattle.http_model.specs.Exchanges.{spelled_to, ending}
+use Rattle.http_model.specs.Refusals.{framing_refusal}
 use Rattle.http_model.specs.Requests.{Framed, Frames, closes, unframeable}
 use Rattle.catalogue_core.specs.Kept.{Keeps}
 use Rattle.library_http.specs.declared.serving.How.{How}
@@ -97,9 +98,9 @@ pub record SoFar (most more : ℕ) (start : State) (answered : ℕ) (held : List
 
 -- what writing the refusal that ends a session does, which ends so
 abbrev pub RefusesBy : How → FramingRefusal → SinkView → SinkView → Type 0
-RefusesBy how.Unframeable refusal sink_before sink_now = Appends sink_before.written sink_now.written (ending (unframeable refusal))
-RefusesBy how.SinkFault refusal sink_before sink_now = AppendsPart sink_before.written sink_now.written (ending (unframeable refusal))
-RefusesBy how.Memory refusal sink_before sink_now = AppendsPart sink_before.written sink_now.written (ending (unframeable refusal))
+RefusesBy how.Unframeable refusal sink_before sink_now = Appends sink_before.written sink_now.written (ending (unframeable (framing_refusal refusal)))
+RefusesBy how.SinkFault refusal sink_before sink_now = AppendsPart sink_before.written sink_now.written (ending (unframeable (framing_refusal refusal)))
+RefusesBy how.Memory refusal sink_before sink_now = AppendsPart sink_before.written sink_now.written (ending (unframeable (framing_refusal refusal)))
 RefusesBy how.Ended refusal sink_before sink_now = ⊥
 RefusesBy how.Turns refusal sink_before sink_now = ⊥
 RefusesBy how.SourceFault refusal sink_before sink_now = ⊥

@@ -153,7 +153,7 @@ decided_steps s asked (stays reply) decides = steps_same s
 decided_steps s (refused other) (accepts reply next) decides = absurd (cc decides)
 decided_steps s (question about) (accepts reply next) decides = absurd (cc decides)
 decided_steps s (change token mark wanted) (accepts reply next) decides =
-    let step = (accepted-IsKeptStep s token mark wanted reply next decides).2.1 in
+    let step = (accepted-IsKeptStep s token mark wanted reply next decides).2 in
     let is = accepted_made s (accepted-IsKeptStep s token mark wanted reply next decides).0 reply step.made step.decides in
     steps_like s is.next next
     (ap (λ (t : State). t.next_take) step.next_is ∙ ap (λ (t : State). t.next_take) is.after_is)
@@ -279,6 +279,14 @@ each_has_more (r ∷ rs) others = (
       (λ take has. or_right (r.take == take) (has_take take (rs ++ others)) has) (each_has_more rs others),
 )
 
+-- a greater number is another
+unlike : (m n : ℕ) → nat_lt m n ≡ true → n ≢ m
+unlike m n less same = grind (arith, nat_tests)
+
+-- numbers of which neither is less are equal
+level : (m n : ℕ) → nat_lt m n ≡ false → nat_lt n m ≡ false → m ≡ n
+level m n less more = grind (arith, nat_tests)
+
 -- of recordings in order, one of the id of another is that one
 same_id : (id : ℕ) (rs : List Recording) (r : Recording) → Ascends recording_less (map recording_row rs) → recording_of id rs ≡ Some r
     → AllByRecursion (λ (q : Recording). q.id ≡ r.id → q.take ≡ r.take) rs
@@ -300,8 +308,6 @@ same_id id (q ∷ rs) r ascends found = by_id (q.id == id) found (same_id id rs 
     by_id false found rest =
         let less = (found_has (λ (other : Recording). nat_lt q.id other.id ≡ true) id rs r above found).0 in
         (λ same. absurd (unlike q.id r.id less (sym same)), rest found)
-    unlike : (m n : ℕ) → nat_lt m n ≡ true → n ≢ m
-    unlike m n less same = grind (arith, nat_tests)
 
 -- each take is still there where a recording is put over one of the same take, or over none
 each_stays : (new : Recording) (rs : List Recording) → AllByRecursion (λ (q : Recording). q.id ≡ new.id → q.take ≡ new.take) rs
@@ -325,8 +331,6 @@ each_stays new (q ∷ rs) like = by_order (recording_before q new) (recording_be
     by_order false false is other rest =
         let same : q.take ≡ new.take = like.0 (level q.id new.id is other) in
         (or_left (new.take == q.take) (has_take q.take rs) (grind (arith, nat_tests)), behind new rs (takes_of rs) (each_has rs))
-    level : (m n : ℕ) → nat_lt m n ≡ false → nat_lt n m ≡ false → m ≡ n
-    level m n less more = grind (arith, nat_tests)
 
 -- A command that takes out no file makes a state that has all the takes.
 made_spares : (s : State) (wanted : Command) (next : State) → IsValid s → takes_file wanted ≡ false → MakesState s wanted next
