@@ -1,6 +1,6 @@
 -- What one request does to the world: one that changes nothing, one that is staged, committed and swept.
-use Rattle.std.proofs.Common.{◌≡◌, ◌≢◌, ◌≤◌, ◌+◌, ◌==◌, ◌||◌, not, ℕ, Bool, true, false, List, [], ◌∷◌, Option, None, Some, refl, sym, ap, ◌∙◌, subst, ◌⊎◌, arith, if◌then◌else◌, inl, inr, Result, Ok, Err}
-use Rattle.std.specs.List.{AllByRecursion, Contains}
+use Rattle.std.proofs.Common.{◌≡◌, ◌≢◌, ◌≤◌, ◌+◌, ◌==◌, ◌||◌, not, ℕ, Bool, true, false, List, [], ◌∷◌, Option, None, Some, refl, sym, ap, ◌∙◌, subst, true≢false, ◌⊎◌, arith, if◌then◌else◌, inl, inr, Result, Ok, Err}
+use Rattle.std.specs.List.{AllByRecursion}
 use Rattle.std.proofs.lemmas.Bool.Decides.{nat_tests}
 use Rattle.lib_base.specs.declared.outcomes.Memory.{Memory}
 use Rattle.lib_base.specs.Faults.{Rose}
@@ -19,14 +19,22 @@ use Rattle.library_model.specs.Exchanges.{exchange, counted}
 use Rattle.library_model.specs.Machine.{Answer, AnswersBy, Decides, Way, accepts, stays, as_decided, without_memory, vault_failed, keeper_failed, has_take, taken_out}
 use Rattle.library_model.specs.Refusals.{status_of}
 use Rattle.library_model.specs.Replies.{refusal}
-use Rattle.library_model.specs.Stands.{AsksWithin, HoldsFiles, HoldsFileOf, tables_of}
-use Rattle.library_model.specs.State.{State}
-use Rattle.library_model.proofs.TakesOut.{taken_out-same, taken_out-spared}
+use Rattle.library_model.specs.Stands.{AsksWithin, HoldsFiles, HoldsFileOf, IsValid, tables_of}
+use Rattle.library_model.specs.State.{Recording, State}
+use Rattle.library_model.proofs.Imports.{AllByRecursion-weaker, HoldsFiles-kept}
+use Rattle.library_model.proofs.TakesOut.{taken_out-gone, taken_out-same, taken_out-spared}
+use Rattle.library_model.proofs.ValidSteps.{accepted-HoldsFiles, accepted-IsValid}
 use Rattle.catalogue_core.specs.declared.libraries.Library.{Library}
-use Rattle.catalogue_core.specs.Kept.{Keeps, HoldsAgain, numbers_of}
+use Rattle.catalogue_core.specs.declared.prepared.Prepared.{Prepared}
+use Rattle.catalogue_core.specs.declared.prepared.Staged.{Staged}
+use Rattle.catalogue_core.specs.Causes.{IsGranted}
+use Rattle.catalogue_core.specs.Committing.{Commits, IsLeft, IsMade}
+use Rattle.catalogue_core.specs.Kept.{Holds, HoldsAgain, Keeps, numbers_of, takes_of}
+use Rattle.catalogue_core.specs.Staging.{Prepares, Stages}
+use Rattle.catalogue_core.specs.Sweeping.{Clears, Sweeps}
 use Rattle.library_http.specs.Acts.{Acts, Counts, IsSettled, Leads, OtherKeysKept, count_held, held}
 use Rattle.library_http.specs.World.{World, world, RoseBy}
-use Rattle.library_http.proofs.Goings.{Goes-same, Goes-weaker, Goes-both, RoseBy-none, RoseBy-one}
+use Rattle.library_http.proofs.Goings.{Goes-same, Goes-then, Goes-weaker, Goes-both, RoseBy-none, RoseBy-one}
 use Rattle.library_http.proofs.Making.{Leads-same}
 
 -- ---- statuses that count
@@ -302,3 +310,96 @@ made_left s next reply released v0 v1 v3 out rose others clears later =
   where
     by_sum : (m n x y z : ℕ) → RoseBy m x y → RoseBy n y z → RoseBy (m + n) x z
     by_sum m n x y z first next = omega arith
+
+-- a count that rose by so many goes on
+grows : (n x y z : ℕ) → RoseBy n x y → y ≤ z → RoseBy n x z
+grows n x y z rose later = omega arith
+
+-- a reply of 200 or 201 counts no fault
+CountsOne-granted : (reply : Reply) (w0 w1 : World) → IsGranted reply.status → w0.vault.faults ≤ w1.vault.faults
+    → w0.keeper.faults ≤ w1.keeper.faults → CountsOne reply w0 w1
+CountsOne-granted reply w0 w1 granted vault_later keeper_later =
+    let most = granted.1 in
+    CountsOne-neither reply w0 w1 (λ is. absurd (omega (arith, most, is))) (λ is. absurd (omega (arith, most, is))) vault_later keeper_later
+
+-- a change that neither puts a file nor takes one out makes no call of the vault
+made_calls : (s : State) (token mark : List ℕ) (wanted : Command) (p : Prepared) (next : State) (v0 v1 v3 : VaultView) → IsValid s
+    → Decides s (change token mark (command wanted)) (accepts p.reply next) → taken_out s next ≡ takes_of p.released
+    → (puts_file wanted ≡ false) × (takes_file wanted ≡ false) → (puts_file wanted ≡ false → v1 ≡ v0) → Clears p.released v1 v3
+    → v3.calls ≡ v0.calls
+made_calls s token mark wanted p next v0 v1 v3 valid decides out is spared clears =
+    let none : takes_of p.released ≡ [] = sym out ∙ taken_out-spared s token mark wanted p.reply next valid is.1 decides in
+    ap (λ (v : VaultView). v.calls) (unswept p.released none clears ∙ spared is.0)
+  where
+    unswept : (released : Option ℕ) → takes_of released ≡ [] → Clears released v1 v3 → v3 ≡ v1
+    unswept None none clears = clears
+    unswept (Some take) none clears = absurd (cc none)
+
+-- A change that was staged, made and swept acts as its verdict says.
+Acts-made : (s : State) (token mark : List ℕ) (wanted : Command) (p : Prepared) (reply : Reply) (r : Result Staged Memory)
+    (lib0 lib1 lib2 lib3 : Library) (k0 k2 : KeeperView) (v0 v1 v3 : VaultView) → Keeps lib0 s → AsksWithin (change token mark (command wanted))
+    → Stages wanted lib0 lib1 v0 v1 r → (puts_file wanted ≡ false → v1 ≡ v0)
+    → Goes (λ _ blobs. HoldsFileOf wanted (numbers_of lib0).take blobs) v0.blobs v1.blobs
+    → Prepares s (change token mark (command wanted)) p → IsGranted p.reply.status → IsMade p lib1 lib2 k0 k2 reply → k0.faults ≤ k2.faults
+    → Sweeps lib2 lib3 v1 v3
+    → Acts s (change token mark (command wanted)) reply (world lib0 k0 v0) (world lib3 k2 v3)
+Acts-made s token mark wanted p reply r lib0 lib1 lib2 lib3 k0 k2 v0 v1 v3 keeps within stages spared put prepares granted made later sweeps =
+    let asked : Asked = change token mark (command wanted) in
+    let next = prepares.next in
+    let clears : Clears p.released v1 v3 = subst (λ (o : Option ℕ). Clears o v1 v3) made.released sweeps.clears in
+    let others = others_of s lib0 v0.blobs v1.blobs keeps stages.others in
+    let holds : Goes (λ _ blobs. HoldsFileOf wanted s.next_take blobs) v0.blobs v1.blobs =
+    subst (λ (take : ℕ). Goes (λ _ blobs. HoldsFileOf wanted take blobs) v0.blobs v1.blobs) (ap (λ (n : NextNumbers). n.take) keeps.rows.numbers) put in
+    let counts = CountsOne-granted reply (world lib0 k0 v0) (world lib3 k2 v1) (subst (λ (q : Reply). IsGranted q.status) (sym made.reply_is) granted)
+    stages.later later in
+    let swept_later = sweeps.later in
+    let staged_later = stages.later in
+    record {
+      next = next;
+      answers = record { way = as_decided (accepts p.reply next); answers = (prepares.decides, made.reply_is, refl) };
+      leads = record {
+        keeps = made_keeps s asked p reply lib0 lib1 lib2 lib3 k0 k2 keeps within stages.held prepares made sweeps.held;
+        rows = Goes-weaker _ _ (λ old new changed_is old_is. changed_is ∙ ap (changed_all p.batch.changes) old_is ∙ prepares.rows)
+            k0.tables k2.tables made.tables;
+        files = made_files s token mark wanted p next v0 v1 v3 keeps.valid prepares.decides prepares.released others holds clears;
+      };
+      counts = record {
+        vault = grows (counted (status_of cause.Vault) reply + 0) v0.faults v1.faults v3.faults counts.vault swept_later;
+        left = made_left s next reply p.released v0 v1 v3 prepares.released counts.vault others clears swept_later;
+        keeper = counts.keeper;
+      };
+      calls = λ is. made_calls s token mark wanted p next v0 v1 v3 keeps.valid prepares.decides prepares.released
+          (spares (puts_file wanted) (takes_file wanted) is) spared clears;
+      keys = Goes-then (OthersKept s.next_take)
+          (λ old new. (key : ℕ) → AllByRecursion (λ take. key ≢ take) (takes_of p.released) → new key ≡ old key)
+          (OtherKeysKept s.next_take (taken_out s next))
+          (λ a b c kept swept key apart differs.
+              swept key (subst (λ (takes : List ℕ). AllByRecursion (λ take. key ≢ take) takes) prepares.released differs) ∙ kept key apart)
+          v0.blobs v1.blobs v3.blobs others (swept_keys p.released v1 v3 clears);
+      complete = λ _ _. inl (accepts p.reply next, (prepares.decides, made.reply_is, refl));
+    }
+
+-- A change that was staged, and committed and swept, acts.
+pub Acts-settled : (s : State) (token mark : List ℕ) (wanted : Command) (p : Prepared) (reply : Reply) (r : Result Staged Memory)
+    (lib0 lib1 lib2 lib3 : Library) (k0 k2 : KeeperView) (v0 v1 v3 : VaultView) → Keeps lib0 s → AsksWithin (change token mark (command wanted))
+    → Stages wanted lib0 lib1 v0 v1 r → (puts_file wanted ≡ false → v1 ≡ v0)
+    → Goes (λ _ blobs. HoldsFileOf wanted (numbers_of lib0).take blobs) v0.blobs v1.blobs
+    → Prepares s (change token mark (command wanted)) p → IsGranted p.reply.status → Commits p lib1 lib2 k0 k2 reply → Sweeps lib2 lib3 v1 v3
+    → Acts s (change token mark (command wanted)) reply (world lib0 k0 v0) (world lib3 k2 v3)
+Acts-settled s token mark wanted p reply r lib0 lib1 lib2 lib3 k0 k2 v0 v1 v3 keeps within stages spared put prepares granted commits sweeps =
+    let asked : Asked = change token mark (command wanted) in
+    let later = commits.later in
+    elim (commits.settles) [
+      | inl made ↦ Acts-made s token mark wanted p reply r lib0 lib1 lib2 lib3 k0 k2 v0 v1 v3 keeps within stages spared put prepares granted made
+          later sweeps
+      | inr (inl failed) ↦
+          subst (λ (q : Reply). Acts s asked q (world lib0 k0 v0) (world lib3 k2 v3)) (sym failed.1)
+          (Acts-left s token mark wanted (refusal cause.Keeper) r lib0 lib1 lib2 lib3 k0 k2 v0 v1 v3 keeps stages spared failed.0 sweeps
+          (record { way = keeper_failed (accepts p.reply prepares.next); answers = (prepares.decides, tt, refl, refl) })
+          (CountsOne-keeper (world lib0 k0 v0) (world lib3 k2 v1) stages.later failed.2))
+      | inr (inr wanting) ↦
+          subst (λ (q : Reply). Acts s asked q (world lib0 k0 v0) (world lib3 k2 v3)) (sym wanting.1)
+          (Acts-left s token mark wanted (refusal cause.Memory) r lib0 lib1 lib2 lib3 k0 k2 v0 v1 v3 keeps stages spared wanting.0 sweeps
+          (record { way = without_memory; answers = (refl, refl) })
+          (CountsOne-neither (refusal cause.Memory) (world lib0 k0 v0) (world lib3 k2 v1) (omega arith) (omega arith) stages.later later))
+    ]

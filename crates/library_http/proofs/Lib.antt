@@ -1,0 +1,7 @@
+mod Acting
+mod Ending
+mod Fronts
+mod Goings
+mod Making
+mod Releases
+mod Serving

@@ -13,13 +13,14 @@ use Rattle.library_model.specs.Machine.{has_take, taken_out}
 use Rattle.library_model.specs.Refusals.{status_of}
 use Rattle.library_model.specs.Stands.{tables_of, HoldsFiles}
 use Rattle.library_model.specs.State.{State}
+use Rattle.library_model.proofs.Imports.{AllByRecursion-weaker}
 use Rattle.library_model.proofs.TakesOut.{Answer-StepsTakes, taken_out-had, has_take-given}
 use Rattle.catalogue_core.specs.Kept.{Keeps}
 use Rattle.library_http.specs.Acts.{Acts, Counts, Leads, OldKeysKept, OtherKeysKept, count_held}
 use Rattle.library_http.specs.Sessions.{Made}
 use Rattle.library_http.specs.World.{World, RoseBy}
 use Rattle.library_http.proofs.Goings.{Goes-then, Goes-same, Goes-weaker, RoseBy-none, count_held-append, count_held-same}
-use Rattle.library_http.proofs.Releases.{Answers-Known, AreReleased-none, AreReleased-cons, all_weaker}
+use Rattle.library_http.proofs.Releases.{Answers-Known, AreReleased-none, AreReleased-cons}
 
 -- ---- the library's way from state to state
 
@@ -67,7 +68,7 @@ released_stay : (s next : State) (later : List ℕ) (b c : Blobs) → AllByRecur
 released_stay s next later b c given differ behind = by_list (taken_out s next) given differ
   where
     apart_of : (key : ℕ) (xs ys : List ℕ) → AllByRecursion (λ (other : ℕ). other ≢ key) (xs ++ ys) → AllByRecursion (λ take. key ≢ take) ys
-    apart_of key [] ys apart = all_weaker (λ (other : ℕ). other ≢ key) (λ take. key ≢ take) ys (λ take not same. not (sym same)) apart
+    apart_of key [] ys apart = AllByRecursion-weaker (λ (other : ℕ). other ≢ key) (λ take. key ≢ take) ys (λ take not same. not (sym same)) apart
     apart_of key (x ∷ xs) ys apart = apart_of key xs ys apart.1
     by_list : (keys : List ℕ) → AllByRecursion (λ key. key < next.next_take) keys → Differ (keys ++ later)
         → AllByRecursion (λ key. c key ≡ b key) keys
@@ -140,7 +141,7 @@ Made-cons s asked reply exchanges w0 w1 w2 keeps acts made =
     let takes = AreReleased-cons s next made.last made.released keeps.valid steps
     (Answers-Known next made.last exchanges made.released made.answers) made.takes in
     let below : AllByRecursion (λ key. key < next.next_take) (taken_out s next) =
-    all_weaker (λ take. has_take take s.recordings ≡ true) (λ key. key < next.next_take) (taken_out s next)
+    AllByRecursion-weaker (λ take. has_take take s.recordings ≡ true) (λ key. key < next.next_take) (taken_out s next)
     (λ take had. let given = has_take-given s take keeps.valid had in omega (arith, given, rises)) (taken_out-had s next) in
     record {
       last = made.last;

@@ -8,6 +8,7 @@ use Rattle.library_model.specs.InOrder.{Differ}
 use Rattle.library_model.specs.Machine.{Answer, has_take, taken_out}
 use Rattle.library_model.specs.Stands.{IsValid}
 use Rattle.library_model.specs.State.{State}
+use Rattle.library_model.proofs.Imports.{AllByRecursion-both, AllByRecursion-weaker}
 use Rattle.library_model.proofs.TakesOut.{StepsTakes, Answer-StepsTakes, taken_out-had, taken_out-gone, taken_out-Differ, has_take-given}
 use Rattle.library_http.specs.Sessions.{AreReleased}
 
@@ -16,15 +17,6 @@ use Rattle.library_http.specs.Sessions.{AreReleased}
 all_append : {A : Type 0} (P : A → Type 0) (xs ys : List A) → AllByRecursion P xs → AllByRecursion P ys → AllByRecursion P (xs ++ ys)
 all_append P [] ys p q = q
 all_append P (x ∷ xs) ys p q = (p.0, all_append P xs ys p.1 q)
-
-pub all_weaker : {A : Type 0} (P Q : A → Type 0) (xs : List A) → ((x : A) → P x → Q x) → AllByRecursion P xs → AllByRecursion Q xs
-all_weaker P Q [] weaker p = tt
-all_weaker P Q (x ∷ xs) weaker p = (weaker x p.0, all_weaker P Q xs weaker p.1)
-
-pub all_both : {A : Type 0} (P Q R : A → Type 0) (xs : List A) → ((x : A) → P x → Q x → R x) → AllByRecursion P xs → AllByRecursion Q xs
-    → AllByRecursion R xs
-all_both P Q R [] both p q = tt
-all_both P Q R (x ∷ xs) both p q = (both x p.0 q.0, all_both P Q R xs both p.1 q.1)
 
 -- lists whose takes differ, and differ from each other's, have takes that differ
 Differ-append : (xs ys : List ℕ) → Differ xs → Differ ys → AllByRecursion (λ x. AllByRecursion (λ y. y ≢ x) ys) xs → Differ (xs ++ ys)
@@ -61,8 +53,8 @@ Answers-Known s last (e ∷ exchanges) released (next, later, answer, answers, i
     subst (Known s last) (sym is)
     (record {
       of_released = all_append (IsKnown s) (taken_out s next) later
-          (all_weaker (λ take. has_take take s.recordings ≡ true) (IsKnown s) (taken_out s next) (λ take has. inl has) (taken_out-had s next))
-          (all_weaker (IsKnown next) (IsKnown s) later (λ take known. known_before s next take steps known) rest.of_released);
+          (AllByRecursion-weaker (λ take. has_take take s.recordings ≡ true) (IsKnown s) (taken_out s next) (λ take has. inl has) (taken_out-had s next))
+          (AllByRecursion-weaker (IsKnown next) (IsKnown s) later (λ take known. known_before s next take steps known) rest.of_released);
       of_last = λ take has. known_before s next take steps (rest.of_last take has);
     })
 
@@ -86,15 +78,15 @@ pub AreReleased-cons : (s next last : State) (later : List ℕ) → IsValid s �
     → AreReleased last later → AreReleased last (taken_out s next ++ later)
 AreReleased-cons s next last later valid steps known released =
     let unknown : AllByRecursion (λ take. ¬ IsKnown next take) (taken_out s next) =
-    all_both (λ take. has_take take s.recordings ≡ true) (λ take. has_take take next.recordings ≡ false) (λ take. ¬ IsKnown next take)
+    AllByRecursion-both (λ take. has_take take s.recordings ≡ true) (λ take. has_take take next.recordings ≡ false) (λ take. ¬ IsKnown next take)
     (taken_out s next) (λ take had gone. out_for_good s next take valid steps had gone) (taken_out-had s next) (taken_out-gone s next) in
     record {
       differ = Differ-append (taken_out s next) later (taken_out-Differ s next valid) released.differ
-          (all_weaker (λ take. ¬ IsKnown next take) (λ take. AllByRecursion (λ other. other ≢ take) later) (taken_out s next)
-          (λ take not. all_weaker (IsKnown next) (λ other. other ≢ take) later
+          (AllByRecursion-weaker (λ take. ¬ IsKnown next take) (λ take. AllByRecursion (λ other. other ≢ take) later) (taken_out s next)
+          (λ take not. AllByRecursion-weaker (IsKnown next) (λ other. other ≢ take) later
           (λ other is same. not (subst (IsKnown next) same is)) known.of_released) unknown);
       gone = all_append (λ take. has_take take last.recordings ≡ false) (taken_out s next) later
-          (all_weaker (λ take. ¬ IsKnown next take) (λ take. has_take take last.recordings ≡ false) (taken_out s next)
+          (AllByRecursion-weaker (λ take. ¬ IsKnown next take) (λ take. has_take take last.recordings ≡ false) (taken_out s next)
           (λ take not. false_of (has_take take last.recordings) (λ has. not (known.of_last take has))) unknown)
           released.gone;
     }
