@@ -24,11 +24,8 @@ pub mod NextTables
 pub mod Counting
 pub mod MadeStates
 pub mod ValidSteps
-<<<<<<< HEAD
 pub mod TakesOut
-=======
 pub mod Looking
 pub mod Fitting
 pub mod Refusing
 pub mod Closing
->>>>>>> 206035f0e62edc9873e0b8eb8213184772b0c0a6
