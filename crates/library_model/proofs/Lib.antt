@@ -21,3 +21,5 @@ pub mod Exits
 pub mod Steps
 pub mod Resummed
 pub mod NextTables
+pub mod MadeStates
+pub mod ValidSteps

@@ -49,7 +49,7 @@ row_passes r found =
 -- ---- the segments of recordings
 
 -- the takes of rows are those of recordings
-takes_of_rows : (rs : List Recording)
+pub takes_of_rows : (rs : List Recording)
     → map (λ (row : RecordingRow). row.take) (map recording_row rs) ≡ map (λ (r : Recording). r.take) rs
 takes_of_rows [] = refl
 takes_of_rows (r ∷ rs) = ap (λ (takes : List ℕ). r.take ∷ takes) (takes_of_rows rs)
