@@ -19,10 +19,10 @@ use Rattle.album_merge.specs.Tallies.{Tallied, StandsForMeasured}
 use Rattle.library_model.specs.RowRules.{measured_in, members_in, is_in_album, energies_of_take}
 use Rattle.catalogue_rows.specs.declared.kept.KeptAlbum.{KeptAlbum}
 use Rattle.catalogue_rows.specs.declared.kept.KeptRecording.{KeptRecording}
-use Rattle.catalogue_rows.specs.declared.tallied.TalliedRows.{TalliedRows}
+use Rattle.catalogue_rows.specs.declared.rows.CatalogueRows.{CatalogueRows}
 use Rattle.catalogue_rows.specs.KeptOrders.{kept_album_id, kept_album_less, kept_recording_less, kept_recording_id}
 use Rattle.catalogue_rows.specs.Making.{AreAlone, HasNoMembers, IsAlone, IsUnnamed}
-use Rattle.catalogue_rows.specs.Tallied.{HasOwn, Holds, IsBeside, IsInAlbum, album_of, album_row, recording_row, numbers_of}
+use Rattle.catalogue_rows.specs.Holding.{HasOwn, Holds, IsBeside, IsInAlbum, album_of, album_row, recording_row, numbers_of}
 
 -- a row found among parts
 pub find_parts : {K A : Type 0} (number : A → ℕ) (n : ℕ) (f : K → A) (ks : List K)
@@ -75,7 +75,7 @@ members_without other id (r ∷ rows) alone =
     cases rest false is = ap (λ (l : List RecordingRow). cond (is_in_album other r.album) (r ∷ l) l) rest
 
 -- rows hold the tables with a recording in no album more
-pub Holds-put_alone : (rows next : TalliedRows) (t : Tables) (row : RecordingRow) (tally : Tallied) → Holds rows t → IsAlone row t
+pub Holds-put_alone : (rows next : CatalogueRows) (t : Tables) (row : RecordingRow) (tally : Tallied) → Holds rows t → IsAlone row t
     → StandsForMeasured tally (measured_in t row)
     → next.recordings.items ≡ put kept_recording_less (record { row = row; tally = Some tally }) rows.recordings.items
     → numbers_of next ≡ numbers_of rows → next.albums.items ≡ rows.albums.items → next.replies.items ≡ rows.replies.items
@@ -105,7 +105,7 @@ Holds-put_alone rows next t row tally holds alone stands put_is numbers albums r
         (sym (members_put a.row.id row t.recordings alone.itself alone.replaced)) is
 
 -- or with one less
-pub Holds-drop_alone : (rows next : TalliedRows) (t : Tables) (id : ℕ) → Holds rows t → AreAlone id t
+pub Holds-drop_alone : (rows next : CatalogueRows) (t : Tables) (id : ℕ) → Holds rows t → AreAlone id t
     → next.recordings.items ≡ without kept_recording_id id rows.recordings.items
     → numbers_of next ≡ numbers_of rows → next.albums.items ≡ rows.albums.items → next.replies.items ≡ rows.replies.items
     → Holds next (changed (DropRecording id) t)
@@ -128,7 +128,7 @@ Holds-drop_alone rows next t id holds alone left numbers albums replies = record
         (sym (members_without a.row.id id t.recordings alone)) is
 
 -- rows hold the tables with an album of no recording more
-pub Holds-put_empty_album : (rows next : TalliedRows) (t : Tables) (row : AlbumRow) (members : Kept) → Holds rows t → HasNoMembers row.id t
+pub Holds-put_empty_album : (rows next : CatalogueRows) (t : Tables) (row : AlbumRow) (members : Kept) → Holds rows t → HasNoMembers row.id t
     → IsAlbumOf members [] → next.albums.items ≡ put kept_album_less (record { row = row; members = members }) rows.albums.items
     → numbers_of next ≡ numbers_of rows → next.recordings.items ≡ rows.recordings.items → next.replies.items ≡ rows.replies.items
     → Holds next (changed (PutAlbum row) t)
@@ -151,7 +151,7 @@ Holds-put_empty_album rows next t row members holds none stands put_is numbers r
     its = subst (λ (rs : List RecordingRow). IsAlbumOf members (map (λ (r : RecordingRow). (r.id, measured_in t r)) rs)) (sym none) stands
 
 -- or with an album less
-pub Holds-drop_album : (rows next : TalliedRows) (t : Tables) (id : ℕ) → Holds rows t
+pub Holds-drop_album : (rows next : CatalogueRows) (t : Tables) (id : ℕ) → Holds rows t
     → next.albums.items ≡ without kept_album_id id rows.albums.items
     → numbers_of next ≡ numbers_of rows → next.recordings.items ≡ rows.recordings.items → next.replies.items ≡ rows.replies.items
     → Holds next (changed (DropAlbum id) t)
@@ -185,14 +185,14 @@ found_holds {K} P test k (x ∷ ks) found all = cases (λ more. found_holds P te
     cases rest false is at = rest at
 
 -- the row of a recording, or of an album, by what is kept of it
-pub recording_found : (rows : TalliedRows) (t : Tables) (id : ℕ) (found : Option KeptRecording) → Holds rows t
+pub recording_found : (rows : CatalogueRows) (t : Tables) (id : ℕ) (found : Option KeptRecording) → Holds rows t
     → found ≡ find (λ (k : KeptRecording). kept_recording_id k == id) rows.recordings.items
     → option_map recording_row found ≡ find (λ (row : RecordingRow). row.id == id) t.recordings
 recording_found rows t id found holds is =
     ap (option_map recording_row) is ∙ find_parts (λ (r : RecordingRow). r.id) id recording_row rows.recordings.items
     ∙ ap (find (λ (row : RecordingRow). row.id == id)) holds.recordings
 
-pub album_found : (rows : TalliedRows) (t : Tables) (id : ℕ) (found : Option KeptAlbum) → Holds rows t
+pub album_found : (rows : CatalogueRows) (t : Tables) (id : ℕ) (found : Option KeptAlbum) → Holds rows t
     → found ≡ find (λ (k : KeptAlbum). kept_album_id k == id) rows.albums.items
     → option_map album_row found ≡ find (λ (row : AlbumRow). row.id == id) t.albums
 album_found rows t id found holds is =
@@ -200,7 +200,7 @@ album_found rows t id found holds is =
     ∙ ap (find (λ (row : AlbumRow). row.id == id)) holds.albums
 
 -- what an album that is found stands for
-pub members_found : (rows : TalliedRows) (t : Tables) (id : ℕ) (kept : KeptAlbum) → Holds rows t
+pub members_found : (rows : CatalogueRows) (t : Tables) (id : ℕ) (kept : KeptAlbum) → Holds rows t
     → Some kept ≡ find (λ (k : KeptAlbum). kept_album_id k == id) rows.albums.items → IsAlbumOf kept.members (album_of t t.recordings id)
 members_found rows t id kept holds is =
     let found = found_holds (IsInAlbum t) (λ (k : KeptAlbum). kept_album_id k == id) kept rows.albums.items is holds.in_albums in
@@ -232,7 +232,7 @@ energies_put take row (s ∷ rows) apart =
         rw (test, other) refl
 
 -- rows hold what changes no recording's measure
-Holds-measured : (rows : TalliedRows) (t : Tables) (segments : List SegmentRow) → Holds rows t
+Holds-measured : (rows : CatalogueRows) (t : Tables) (segments : List SegmentRow) → Holds rows t
     → AllByRecursion (λ (r : RecordingRow). measured_in (record t { segments = segments }) r ≡ measured_in t r) t.recordings
     → Holds rows (record t { segments = segments })
 Holds-measured rows t segments holds same = record {
@@ -270,7 +270,7 @@ Holds-measured rows t segments holds same = record {
         (subst (λ (m : Measured). HasOwn k.row.album k.tally m) (sym all.0) its.0, besides ks all.1 its.1)
 
 -- rows hold the tables with the segments of a take that no recording names
-pub Holds-put_segments : (rows : TalliedRows) (t : Tables) (row : SegmentRow) → Holds rows t → IsUnnamed row.take t
+pub Holds-put_segments : (rows : CatalogueRows) (t : Tables) (row : SegmentRow) → Holds rows t → IsUnnamed row.take t
     → Holds rows (changed (PutSegments row) t)
 Holds-put_segments rows t row holds unnamed =
     Holds-measured rows t (put segments_less row t.segments) holds

@@ -1,7 +1,8 @@
 pub mod Holding
 pub mod KeptOrders
-pub mod Looking
 pub mod Making
 pub mod Measuring
 pub mod Opening
-pub mod Tallied
+pub mod Room
+pub mod Seeing
+pub mod Trying
