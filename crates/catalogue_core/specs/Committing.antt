@@ -1,6 +1,7 @@
 -- What committing a prepared change answers.
 use Rattle.std.specs.Prelude.{◌≡◌, ◌≤◌, ◌⊎◌, None}
-use Rattle.catalogue_rows.specs.Making as rows
+use Rattle.catalogue_rows.specs.Making.{FitsAll}
+use Rattle.catalogue_rows.specs.Room.{HasRoomFor}
 use Rattle.lib_base.specs.Faults.{Rose}
 use Rattle.keeper_store.specs.declared.contents.Tables.{Tables}
 use Rattle.keeper_store.specs.Changes.{changed_all}
@@ -15,11 +16,11 @@ use Rattle.catalogue_core.specs.Kept.{Holds, HoldsAgain, released_of}
 
 -- the library has the room that the change needs
 abbrev pub Fits : Library → Prepared → Type 0
-Fits library p = rows.HasRoomFor library.rows p.fresh p.batch.changes
+Fits library p = HasRoomFor library.rows p.fresh p.batch.changes
 
 -- the change can be made of what stands in these tables
 abbrev pub FitsTables : Prepared → Tables → Type 0
-FitsTables p t = rows.FitsAll p.batch.changes p.fresh t
+FitsTables p t = FitsAll p.batch.changes p.fresh t
 
 -- the library holds what the change makes of what it held, where the change can be made of it
 abbrev pub HoldsChanged : Prepared → Library → Library → Type 0

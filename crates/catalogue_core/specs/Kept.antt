@@ -1,6 +1,7 @@
 -- What a library keeps.
 use Rattle.std.specs.Prelude.{ℕ, List, [], ◌∷◌, Option, None, Some}
 use Rattle.catalogue_rows.specs.Holding as rows
+use Rattle.catalogue_rows.specs.Seeing as seeing
 use Rattle.keeper_store.specs.declared.contents.NextNumbers.{NextNumbers}
 use Rattle.keeper_store.specs.declared.contents.Tables.{Tables}
 use Rattle.library_model.specs.State.{State}
@@ -17,7 +18,7 @@ Holds library t = rows.Holds library.rows t
 
 -- no reply is kept under the token
 abbrev pub IsFresh : Library → List ℕ → Type 0
-IsFresh library token = rows.IsFresh library.rows token
+IsFresh library token = seeing.IsFresh library.rows token
 
 -- the take that the last commit took out of the recordings, until it is swept
 abbrev pub released_of : Library → Option ℕ

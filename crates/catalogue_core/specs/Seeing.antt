@@ -1,9 +1,8 @@
 -- What a request sees of the replies that a library keeps.
-use Rattle.std.specs.Prelude.{ℕ, List, ⊤}
+use Rattle.std.specs.Prelude.{ℕ, List}
 use Rattle.std.specs.Option.{option_map}
 use Rattle.kept_replies.specs.Seeing.{SeenAs}
 use Rattle.kept_replies.specs.declared.replies.Seen.{Seen}
-use Rattle.kept_replies.specs.declared.replies.Seen.TheVariants.{Fresh, Kept, Other}
 use Rattle.library_model.specs.Machine.{kept_under}
 use Rattle.library_model.specs.Stands.{reply_row}
 use Rattle.library_model.specs.State.{State}
@@ -12,9 +11,3 @@ use Rattle.library_model.specs.State.{State}
 -- one, that the token is another request's where it is not, or that it is fresh.
 abbrev pub Sees : State → List ℕ → List ℕ → Seen → Type 0
 Sees s token mark what = SeenAs (option_map reply_row (kept_under token s.replies)) mark what
-
--- P where a token is seen as fresh
-abbrev pub IfFresh : Seen → Type 0 → Type 0
-IfFresh Fresh P = P
-IfFresh (Kept reply) P = ⊤
-IfFresh Other P = ⊤

@@ -31,11 +31,12 @@ pub struct Library {
 
 impl Library {
     ghost use Rattle.std.specs.Prelude.{◌≡◌};
+    ghost use Rattle.kept_replies.specs.Seeing.{IfFresh};
     ghost use Rattle.kept_replies.specs.Tokens.{text_of};
     ghost use Rattle.library_model.specs.State.{State};
     ghost use Rattle.catalogue_core.specs.Kept.{IsFresh, Keeps, released_of};
     ghost use Rattle.catalogue_core.specs.Opening.{Opens};
-    ghost use Rattle.catalogue_core.specs.Seeing.{IfFresh, Sees};
+    ghost use Rattle.catalogue_core.specs.Seeing.{Sees};
 
     /// Opens the library of the tables that the keeper loads. Where a row of them breaks a rule, the
     /// first is told, and the library is not opened.
