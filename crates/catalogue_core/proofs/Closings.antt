@@ -8,7 +8,7 @@ use Rattle.keeper_store.specs.Puts.{album_less, put}
 use Rattle.keeper_store.specs.declared.contents.Change.TheVariants.{PutAlbum}
 use Rattle.keeper_store.specs.declared.contents.Tables.{Tables}
 use Rattle.keeper_store.specs.declared.row_types.AlbumRow.{AlbumRow}
-use Rattle.library_model.specs.Batches.{AreResummed, closing, ids_in}
+use Rattle.library_model.specs.Batches.{AreResummed, IsResummed, closing, ids_in}
 use Rattle.library_model.specs.RowRules.{has_album}
 use Rattle.library_model.specs.declared.messages.Reply.{Reply}
 use Rattle.library_model.proofs.InOrderLemmas.{has_album-put}
@@ -32,17 +32,18 @@ closing_fits (row ∷ albums) token mark reply fresh t there =
     (inl there.0,
     closing_fits albums token mark reply (record fresh { album = None }) (changed (PutAlbum row) t) (there_still t.albums row albums there.1))
 
+-- The row of an album with other levels has its id.
+pub resummed_id : (t next : Tables) (id : ℕ) (row : AlbumRow) → IsResummed t next id row → row.id ≡ id
+resummed_id t next id row is = ap (λ (a : AlbumRow). a.id) is.row_is ∙ album_named id t.albums is.old is.found
+
 -- Albums with other levels are there.
 pub resummed_there : (t next : Tables) (ids : List ℕ) (rows : List AlbumRow) → AreResummed t next ids rows → AreThere t.albums rows
 resummed_there t next [] [] are = tt
 resummed_there t next [] (row ∷ rows) are = absurd are
 resummed_there t next (id ∷ ids) [] are = absurd are
 resummed_there t next (id ∷ ids) (row ∷ rows) are =
-    let is = are.0 in
-    let same : row.id ≡ is.old.id = ap (λ (a : AlbumRow). a.id) is.row_is in
-    let named : is.old.id ≡ id = album_named id t.albums is.old is.found in
-    let there : has_album id t.albums ≡ true = has_album-some id t.albums is.old is.found in
-    (subst (λ (n : ℕ). has_album n t.albums ≡ true) (sym (same ∙ named)) there, resummed_there t next ids rows are.1)
+    let there : has_album id t.albums ≡ true = has_album-some id t.albums are.0.old are.0.found in
+    (subst (λ (n : ℕ). has_album n t.albums ≡ true) (sym (resummed_id t next id row are.0)) there, resummed_there t next ids rows are.1)
 
 -- The row of the album that is named is the one album with other levels, if one is named.
 pub resummed_list : (t next : Tables) (album : Option ℕ) (row : Option AlbumRow) → IsResummedIn t next album row
