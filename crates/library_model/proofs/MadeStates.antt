@@ -2,7 +2,6 @@
 use Rattle.std.proofs.Common.{◌≡◌, ◌≢◌, ◌≤◌, ◌<◌, ◌+◌, ◌==◌, ◌||◌, true≢false, ℕ, Bool, true, false, cond, nat_lt, nat_le, Option, None, Some, List, [], ◌∷◌, length, map, refl, sym, ap, ◌∙◌, subst, arith}
 use Rattle.std.specs.List.{AllByRecursion, find}
 use Rattle.std.proofs.lemmas.Bool.Decides.{nat_tests}
-use Rattle.std.proofs.lemmas.List.Sums.{sum_by-cons}
 use Rattle.lib_base.specs.declared.files.Summary.{Summary}
 use Rattle.file_model.specs.Pcm.{Pcm}
 use Rattle.keeper_store.specs.Changes.{changed}
@@ -23,6 +22,7 @@ use Rattle.library_model.specs.Names.{is_name}
 use Rattle.library_model.specs.RowRules.{album_is_there, has_album, is_in_album, member_count}
 use Rattle.library_model.specs.Stands.{BringsWithin, IsFound, IsValid, IsWithinLimit, album_row, members, recording_row, tables_of}
 use Rattle.library_model.specs.State.{Album, Recording, State, album_before, numbers_end, recording_before}
+use Rattle.library_model.proofs.Counting.{at_there, count-cons, weight}
 use Rattle.library_model.proofs.Dropped.{AreInOrder-drop_album, AreInOrder-drop_recording}
 use Rattle.library_model.proofs.Imports.{AllByRecursion-both, AllByRecursion-weaker, given_of}
 use Rattle.library_model.proofs.InOrderLemmas.{AllByRecursion-map, AllByRecursion-unmap, AreInOrder-counters, AreInOrder-put_album}
@@ -42,24 +42,12 @@ both_below a b left = (grind (arith, nat_tests), grind (arith, nat_tests))
 
 -- ---- a new album
 
--- an album that is there was given its id
-there_given : (next id : ℕ) (albums : List AlbumRow) → AllByRecursion (λ (a : AlbumRow). IsGiven next a.id) albums
-    → has_album id albums ≡ true → IsGiven next id
-there_given next id [] given there = absurd (true≢false (sym there))
-there_given next id (a ∷ albums) given there = cases (a.id == id) refl (there_given next id albums given.1) there
-  where
-    cases : (here : Bool) → (a.id == id) ≡ here → (has_album id albums ≡ true → IsGiven next id)
-        → (here || has_album id albums) ≡ true → IsGiven next id
-    cases true same rest there =
-        let is : a.id ≡ id = grind (arith, nat_tests) in subst (IsGiven next) is given.0
-    cases false same rest there = rest there
-
 -- no recording is in an album of the next id
 outside_next : (next : ℕ) (albums : List AlbumRow) (album : Option ℕ) → AllByRecursion (λ (a : AlbumRow). IsGiven next a.id) albums
     → album_is_there album albums ≡ true → is_in_album next album ≡ false
 outside_next next albums None given there = refl
 outside_next next albums (Some id) given there =
-    let is = there_given next id albums given there in
+    let is = at_there (IsGiven next) id albums given there in
     let below = is.1 in
     grind (arith, nat_tests)
 
@@ -68,11 +56,9 @@ none_counted : (id : ℕ) (rows : List RecordingRow) → AllByRecursion (λ (r :
     → member_count id rows ≡ 0
 none_counted id [] outside = refl
 none_counted id (r ∷ rows) outside =
-    let one : member_count id (r ∷ rows) ≡ cond (is_in_album id r.album) 1 0 + member_count id rows =
-    sum_by-cons (λ (row : RecordingRow). cond (is_in_album id row.album) 1 0) r rows in
     let rest = none_counted id rows outside.1 in
-    let first : cond (is_in_album id r.album) 1 0 ≡ 0 = rw outside.0 refl in
-    omega (arith, one, rest, first)
+    let first : weight id r ≡ 0 = rw outside.0 refl in
+    omega (arith, rest, first, count-cons id r rows)
 
 -- no recording of a valid state is in an album of the next id
 pub none_in_next : (s : State) → IsValid s → AllByRecursion (λ (r : RecordingRow). is_in_album s.next_album r.album ≡ false) (tables_of s).recordings
@@ -222,18 +208,16 @@ tables_of-removing_album s id =
 pub outside_all : (id : ℕ) (rows : List RecordingRow) → member_count id rows ≡ 0
     → AllByRecursion (λ (r : RecordingRow). is_in_album id r.album ≡ false) rows
 outside_all id [] none = tt
-outside_all id (r ∷ rows) none = cases (is_in_album id r.album) refl
+outside_all id (r ∷ rows) none = cases (is_in_album id r.album) refl (outside_all id rows)
   where
-    one : member_count id (r ∷ rows) ≡ cond (is_in_album id r.album) 1 0 + member_count id rows
-    one = sum_by-cons (λ (row : RecordingRow). cond (is_in_album id row.album) 1 0) r rows
-
     cases : (inside : Bool) → is_in_album id r.album ≡ inside
+        → (member_count id rows ≡ 0 → AllByRecursion (λ (r : RecordingRow). is_in_album id r.album ≡ false) rows)
         → AllByRecursion (λ (r : RecordingRow). is_in_album id r.album ≡ false) (r ∷ rows)
-    cases true inside =
-        let weight : cond (is_in_album id r.album) 1 0 ≡ 1 = rw inside refl in absurd (omega (arith, one, none, weight))
-    cases false inside =
-        let weight : cond (is_in_album id r.album) 1 0 ≡ 0 = rw inside refl in
-        (inside, outside_all id rows (omega (arith, one, none, weight)))
+    cases true inside rest =
+        let own : weight id r ≡ 1 = rw inside refl in absurd (omega (arith, none, own, count-cons id r rows))
+    cases false inside rest =
+        let own : weight id r ≡ 0 = rw inside refl in
+        (inside, rest (omega (arith, none, own, count-cons id r rows)))
 
 remove_album_in_order : (s : State) (id : ℕ) → IsValid s → nat_lt 0 (length (members id s.recordings)) ≡ false
     → AreInOrder (tables_of (removing_album s id))

@@ -139,15 +139,15 @@ few_by_test r rs albums few room =
         omega (arith, few, same)
 
 -- of two numbers one test holds
-less_or_same : (m n : ℕ) → nat_lt m n ≡ true → (m == n) ≡ true → ⊥
+pub less_or_same : (m n : ℕ) → nat_lt m n ≡ true → (m == n) ≡ true → ⊥
 less_or_same m n less same =
     let one : m < n = grind (arith, nat_tests) in let other : m ≡ n = grind (arith, nat_tests) in omega (arith, one, other)
 
-more_or_same : (m n : ℕ) → nat_lt n m ≡ true → (m == n) ≡ true → ⊥
+pub more_or_same : (m n : ℕ) → nat_lt n m ≡ true → (m == n) ≡ true → ⊥
 more_or_same m n more same =
     let one : n < m = grind (arith, nat_tests) in let other : m ≡ n = grind (arith, nat_tests) in omega (arith, one, other)
 
-neither : (m n : ℕ) → nat_lt m n ≡ false → nat_lt n m ≡ false → (m == n) ≡ false → ⊥
+pub neither : (m n : ℕ) → nat_lt m n ≡ false → nat_lt n m ≡ false → (m == n) ≡ false → ⊥
 neither m n less more same =
     let one : n ≤ m = grind (arith, nat_tests) in
     let other : m ≤ n = grind (arith, nat_tests) in

@@ -38,19 +38,19 @@ moved (Some from) None = from ∷ []
 moved (Some from) (Some to) =
     if from == to then [] else if nat_lt from to then from ∷ to ∷ [] else to ∷ from ∷ []
 
--- The row is that of the album of the id, with the levels that its recordings have in the next tables.
-pub record IsResummed (t next : Tables) (id : ℕ) (row : AlbumRow) : Type 0 where
+-- The row is that of the album of the id among these, with the levels that its recordings have in the next tables.
+pub record IsResummed (albums : List AlbumRow) (next : Tables) (id : ℕ) (row : AlbumRow) : Type 0 where
   pub old : AlbumRow
-  pub found : find (λ (a : AlbumRow). a.id == id) t.albums ≡ Some old
+  pub found : find (λ (a : AlbumRow). a.id == id) albums ≡ Some old
   pub row_is : row ≡ record old { summary = row.summary }
   pub summed : IsSummedAlbum next row
 
 -- so is each row that of the album of its id
-abbrev pub AreResummed : Tables → Tables → List ℕ → List AlbumRow → Type 0
-AreResummed t next [] [] = ⊤
-AreResummed t next [] (row ∷ rows) = ⊥
-AreResummed t next (id ∷ ids) [] = ⊥
-AreResummed t next (id ∷ ids) (row ∷ rows) = IsResummed t next id row × AreResummed t next ids rows
+abbrev pub AreResummed : List AlbumRow → Tables → List ℕ → List AlbumRow → Type 0
+AreResummed albums next [] [] = ⊤
+AreResummed albums next [] (row ∷ rows) = ⊥
+AreResummed albums next (id ∷ ids) [] = ⊥
+AreResummed albums next (id ∷ ids) (row ∷ rows) = IsResummed albums next id row × AreResummed albums next ids rows
 
 -- ---- rows
 
