@@ -3,6 +3,7 @@ pub mod KeptOrders
 pub mod Making
 pub mod Measuring
 pub mod Opening
+pub mod Places
 pub mod Room
 pub mod Seeing
 pub mod Trying

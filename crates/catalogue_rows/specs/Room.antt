@@ -24,6 +24,10 @@ HasPlaces rows more = AllByRecursion (λ (kept : KeptAlbum). more kept.row.id �
 abbrev pub one_in : Option ℕ → ℕ → ℕ
 one_in album id = if is_in_album id album then 1 else 0
 
+-- one more in the album that is named, if one is
+abbrev pub and_one : Option ℕ → (ℕ → ℕ) → ℕ → ℕ
+and_one album more id = one_in album id + more id
+
 -- the album that is named, if one is and is there, has a place for a recording more
 abbrev pub HasPlaceIn : CatalogueRows → Option ℕ → Type 0
 HasPlaceIn rows album = HasPlaces rows (one_in album)

@@ -13,6 +13,8 @@ mod joining;
 mod kept;
 mod making;
 mod measuring;
+mod members;
+mod moving;
 mod opening;
 #[cfg(test)]
 mod opening_tests;
@@ -21,6 +23,7 @@ mod ranks;
 mod room;
 mod rows;
 mod summing;
+mod tallies;
 mod trying;
 
 pub use fresh::Fresh;

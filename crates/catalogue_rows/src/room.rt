@@ -5,6 +5,7 @@ ghost use Rattle.catalogue_rows.specs.Holding.{Holds, numbers_of};
 ghost use Rattle.catalogue_rows.specs.Room.{HasPlaceIn, HasRoom, KeepsRoom};
 
 use crate::CatalogueRows;
+use keeper_store::find_place;
 use lib_base::Memory;
 
 /// Refused, they leave what the rows hold, and the room that there was.
@@ -29,7 +30,12 @@ impl CatalogueRows {
         ensures kept { KeepsRoom self.old self.new }
         ensures place { OnOk result (HasPlaceIn self.new album) }
     {
-        let _ = album;
-        Err(Memory)
+        let Some(id) = album else {
+            return Ok(());
+        };
+        let Some(place) = find_place(self.albums.as_slice(), id) else {
+            return Ok(());
+        };
+        self.albums[place].members.reserve(1)
     }
 }

@@ -3,6 +3,7 @@ ghost use Rattle.keeper_store.specs.Puts.{Ascends, Ascends-prop};
 ghost use Rattle.catalogue_rows.specs.KeptOrders.{kept_album_less, kept_recording_less};
 
 use crate::kept::{KeptAlbum, KeptRecording};
+use crate::members::has_place;
 use album_merge::Album;
 use keeper_store::{AlbumRow, NextNumbers, RecordingRow, Tables, find_row};
 use kept_replies::{KeptReplies, Seen, Token};
@@ -89,7 +90,7 @@ impl CatalogueRows {
             return false;
         };
         match self.members(id) {
-            Some(members) => members.len() >= MOST_MEMBERS,
+            Some(members) => !has_place(members),
             None => false,
         }
     }

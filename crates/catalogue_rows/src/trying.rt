@@ -9,6 +9,7 @@ ghost use Rattle.catalogue_rows.specs.Room.{HasPlaceIn, KeepsRoom};
 ghost use Rattle.catalogue_rows.specs.Trying.{HasPlaceFor, IsSumIn, Joins, LeavesAlbum, MovesInto};
 
 use crate::CatalogueRows;
+use crate::tallies::{try_with, try_without};
 use album_merge::TrackTally;
 use lib_base::{Steps, Summary};
 use std::sync::ledger::Ledger;
@@ -35,8 +36,7 @@ impl CatalogueRows {
             → is_some result.0 ≡ true }
         ensures counted { steps.old ≤ steps.new }
     {
-        let _ = (album, id, steps);
-        (None, tally)
+        try_with(&mut self.albums, album, id, tally, steps)
     }
 
     /// The levels that an album would have with a recording that is in another, in none, or in it
@@ -56,8 +56,12 @@ impl CatalogueRows {
             → is_some result ≡ true }
         ensures counted { steps.old ≤ steps.new }
     {
-        let _ = (album, id, steps);
-        None
+        let Some(tally) = self.lift(id) else {
+            return None;
+        };
+        let (summary, tally) = try_with(&mut self.albums, album, id, tally, steps);
+        self.bring_back(id, tally);
+        summary
     }
 
     /// The levels that an album would have without a recording, which is in it or not.
@@ -74,7 +78,6 @@ impl CatalogueRows {
         ensures some { (t : Tables) → Holds self.old t → has_album album t.albums ≡ true → is_some result ≡ true }
         ensures counted { steps.old ≤ steps.new }
     {
-        let _ = (album, id, steps);
-        None
+        try_without(&mut self.albums, album, id, steps)
     }
 }
