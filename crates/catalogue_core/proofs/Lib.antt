@@ -1,4 +1,12 @@
-pub mod Deciding
-pub mod FoundRows
+pub mod AcceptedBounds
+pub mod Closings
+pub mod Imports
 pub mod Loading
-pub mod Summing
+pub mod NewAlbums
+pub mod Planned
+pub mod Puts
+pub mod Regroups
+pub mod Retakes
+pub mod Rooms
+pub mod SeenLaws
+pub mod Taken

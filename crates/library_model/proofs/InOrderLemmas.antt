@@ -193,7 +193,7 @@ either true = refl
 either false = refl
 
 -- an album that is there still is where a row is put
-has_album-put : (id : ℕ) (row : AlbumRow) (albums : List AlbumRow) → has_album id albums ≡ true
+pub has_album-put : (id : ℕ) (row : AlbumRow) (albums : List AlbumRow) → has_album id albums ≡ true
     → has_album id (put album_less row albums) ≡ true
 has_album-put id row [] there = absurd (true≢false (sym there))
 has_album-put id row (a ∷ albums) there =
