@@ -29,3 +29,4 @@ pub mod Looking
 pub mod Fitting
 pub mod Refusing
 pub mod Closing
+pub mod Statuses
