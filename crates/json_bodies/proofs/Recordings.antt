@@ -1,11 +1,25 @@
--- No number of a recording or an album is a float.
-use Rattle.std.proofs.Common.{◌≡◌, ℕ, Option, None, Some, List, [], ◌∷◌, false, refl}
+-- The ids of an album's recordings, and that no number of a recording or an album is a float.
+use Rattle.std.proofs.Common.{◌≡◌, ℕ, Option, None, Some, List, [], ◌∷◌, map, false, refl, ap}
 use Rattle.std.specs.Prelude.{ℤ, pos, negsuc}
-use Rattle.serde_json.specs.Data.{array}
+use Rattle.serde_json.specs.Data.{Data, array, item, number, unsigned}
+use Rattle.serde_json.specs.View.{items_of}
 use Rattle.serde_json.specs.Written.{has_float}
 use Rattle.keeper_store.specs.declared.row_types.AlbumRow.{AlbumRow}
 use Rattle.keeper_store.specs.declared.row_types.RecordingRow.{RecordingRow}
 use Rattle.library_model.specs.Bodies.{album_data, album_id_data, id_items, level_data, recording_data}
+
+-- ---- ids
+
+-- an id as a number
+abbrev pub id_data : ℕ → Data
+id_data id = number (unsigned id)
+
+-- Ids as numbers are the items of ids.
+pub id_items-of : (ids : List ℕ) → items_of (map id_data ids) ≡ id_items ids
+id_items-of [] = refl
+id_items-of (id ∷ ids) = ap (item (id_data id)) (id_items-of ids)
+
+-- ---- floats
 
 -- No level is a float.
 no_float-level : (level : Option ℤ) → has_float (level_data level) ≡ false
