@@ -1,5 +1,5 @@
 -- What one turn of serving does.
-use Rattle.std.specs.Prelude.{◌≡◌, ◌+◌, ℕ, suc, Bool, true, false, List, ◌++◌, Option, Some, None, Result, Ok, Err}
+use Rattle.std.specs.Prelude.{◌≡◌, ◌+◌, ℕ, suc, Bool, true, false, List, [], ◌++◌, Option, Some, None, Result, Ok, Err}
 use Rattle.std.specs.Io.KnownBytes.{Appends, Consumes}
 use Rattle.lib_base.specs.Sources.{SourceView}
 use Rattle.lib_base.specs.Writes.{AppendsPart, SinkView}
@@ -14,7 +14,13 @@ use Rattle.http_model.specs.declared.refusals.FramingRefusal.{FramingRefusal}
 use Rattle.http_model.specs.Exchanges.{spelled_to, ending}
 use Rattle.http_model.specs.Refusals.{framing_refusal}
 use Rattle.http_model.specs.Requests.{Framed, Frames, closes, unframeable}
+use Rattle.keeper_store.specs.Keepers.{KeeperView}
+use Rattle.keeper_store.specs.Vaults.{VaultView}
+use Rattle.catalogue_core.specs.declared.libraries.Library.{Library}
+use Rattle.catalogue_core.specs.declared.prepared.Prepared.{Prepared}
+use Rattle.catalogue_core.specs.Committing.{Commits}
 use Rattle.catalogue_core.specs.Kept.{Keeps}
+use Rattle.catalogue_core.specs.Sweeping.{Sweeps}
 use Rattle.library_http.specs.declared.serving.How.{How}
 use Rattle.library_http.specs.declared.serving.How.TheVariants as how
 use Rattle.library_http.specs.declared.serving.Turn.{Turn}
@@ -104,3 +110,15 @@ RefusesBy how.Memory refusal sink_before sink_now = AppendsPart sink_before.writ
 RefusesBy how.Ended refusal sink_before sink_now = ⊥
 RefusesBy how.Turns refusal sink_before sink_now = ⊥
 RefusesBy how.SourceFault refusal sink_before sink_now = ⊥
+
+-- the methods that a reply names: none for want of memory
+abbrev pub allowed_in : Option Reply → List (List ℕ) → List (List ℕ)
+allowed_in (Some reply) methods = methods
+allowed_in None methods = []
+
+-- A prepared change was committed, and what it released was swept.
+pub record Settled (p : Prepared) (library settled : Library) (keeper_before keeper_now : KeeperView) (vault_before vault_now : VaultView)
+    (reply : Reply) : Type 0 where
+  pub committed : Library
+  pub commits : Commits p library committed keeper_before keeper_now reply
+  pub sweeps : Sweeps committed settled vault_before vault_now

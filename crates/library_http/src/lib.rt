@@ -10,6 +10,5 @@
 mod answering;
 mod changing;
 mod serving;
-mod writing;
 
 pub use serving::{How, SessionEnd, session};
