@@ -22,6 +22,7 @@ use Rattle.library_model.specs.Replies.{refusal}
 use Rattle.library_model.specs.Stands.{AsksWithin, HoldsFiles, HoldsFileOf, IsValid, tables_of}
 use Rattle.library_model.specs.State.{Recording, State}
 use Rattle.library_model.proofs.Imports.{AllByRecursion-weaker, HoldsFiles-kept}
+use Rattle.library_model.proofs.Statuses.{Decides-IsBelow, RefusesBelow}
 use Rattle.library_model.proofs.TakesOut.{taken_out-gone, taken_out-same, taken_out-spared}
 use Rattle.library_model.proofs.ValidSteps.{accepted-HoldsFiles, accepted-IsValid}
 use Rattle.catalogue_core.specs.declared.libraries.Library.{Library}
@@ -169,10 +170,12 @@ Acts-unread s asked w keeps =
     Acts-same s asked (refusal cause.Memory) w keeps (record { way = without_memory; answers = (refl, refl) }) (omega arith) (omega arith)
 
 -- A reply that is decided and leaves the state.
-pub Acts-decided : (s : State) (asked : Asked) (reply : Reply) (w : World) → Keeps w.library s → Decides s asked (stays reply)
-    → reply.status ≢ status_of cause.Vault → reply.status ≢ status_of cause.Keeper → Acts s asked reply w w
-Acts-decided s asked reply w keeps decides vault keeper =
-    Acts-same s asked reply w keeps (record { way = as_decided (stays reply); answers = (decides, refl, refl) }) vault keeper
+pub Acts-decided : (s : State) (asked : Asked) (reply : Reply) (w : World) → Keeps w.library s → RefusesBelow asked
+    → Decides s asked (stays reply) → Acts s asked reply w w
+Acts-decided s asked reply w keeps of_asked decides =
+    let below = Decides-IsBelow s asked (stays reply) keeps.valid of_asked decides in
+    Acts-same s asked reply w keeps (record { way = as_decided (stays reply); answers = (decides, refl, refl) })
+    (λ is. absurd (omega (arith, below, is))) (λ is. absurd (omega (arith, below, is)))
 
 -- ---- what was swept
 
@@ -361,20 +364,20 @@ Acts-made s token mark wanted p reply r lib0 lib1 lib2 lib3 k0 k2 v0 v1 v3 keeps
         keeps = made_keeps s asked p reply lib0 lib1 lib2 lib3 k0 k2 keeps within stages.held prepares made sweeps.held;
         rows = Goes-weaker _ _ (λ old new changed_is old_is. changed_is ∙ ap (changed_all p.batch.changes) old_is ∙ prepares.rows)
             k0.tables k2.tables made.tables;
-        files = made_files s token mark wanted p next v0 v1 v3 keeps.valid prepares.decides prepares.released others holds clears;
+        files = made_files s token mark wanted p next v0 v1 v3 keeps.valid prepares.decides prepares.released_is others holds clears;
       };
       counts = record {
         vault = grows (counted (status_of cause.Vault) reply + 0) v0.faults v1.faults v3.faults counts.vault swept_later;
-        left = made_left s next reply p.released v0 v1 v3 prepares.released counts.vault others clears swept_later;
+        left = made_left s next reply p.released v0 v1 v3 prepares.released_is counts.vault others clears swept_later;
         keeper = counts.keeper;
       };
-      calls = λ is. made_calls s token mark wanted p next v0 v1 v3 keeps.valid prepares.decides prepares.released
+      calls = λ is. made_calls s token mark wanted p next v0 v1 v3 keeps.valid prepares.decides prepares.released_is
           (spares (puts_file wanted) (takes_file wanted) is) spared clears;
       keys = Goes-then (OthersKept s.next_take)
           (λ old new. (key : ℕ) → AllByRecursion (λ take. key ≢ take) (takes_of p.released) → new key ≡ old key)
           (OtherKeysKept s.next_take (taken_out s next))
           (λ a b c kept swept key apart differs.
-              swept key (subst (λ (takes : List ℕ). AllByRecursion (λ take. key ≢ take) takes) prepares.released differs) ∙ kept key apart)
+              swept key (subst (λ (takes : List ℕ). AllByRecursion (λ take. key ≢ take) takes) prepares.released_is differs) ∙ kept key apart)
           v0.blobs v1.blobs v3.blobs others (swept_keys p.released v1 v3 clears);
       complete = λ _ _. inl (accepts p.reply next, (prepares.decides, made.reply_is, refl));
     }

@@ -8,19 +8,13 @@ use Rattle.http_model.specs.Requests.{AreRequests, End, Framed, Frames, IsFront,
 use Rattle.http_model.specs.Refusals.{framing_refusal}
 use Rattle.library_http.proofs.Fronts.{AreRequests-cons, IsFront-cons}
 use Rattle.http_inbox.specs.Inboxes.{Covers}
+use Rattle.http_inbox.proofs.CoversLaws.{Covers-all}
 use Rattle.library_http.specs.declared.serving.How.{How}
 use Rattle.library_http.specs.declared.serving.How.TheVariants.{Ended, Turns, Unframeable, SourceFault, SinkFault, Memory}
 use Rattle.library_http.specs.Sessions.{AppendsInPart, BreaksOff, BreaksOffAtEnd, CutShort, EndsAs, Unread, Whole}
 use Rattle.library_http.proofs.Goings.{Appends-part}
 
 -- ---- bytes however they go on
-
--- What follows of bytes however they go on follows where they are covered.
-pub Covers-weaker : (left : Option (List ℕ)) (a b : List ℕ) (P Q : List ℕ → Type 0) → ((more : List ℕ) → P (a ++ more) → Q (b ++ more))
-    → Covers left a P → Covers left b Q
-Covers-weaker left a b P Q weaker (inl at_end) =
-    inl (at_end.0, subst Q (append-nil b) (weaker [] (subst P (sym (append-nil a)) at_end.1)))
-Covers-weaker left a b P Q weaker (inr on) = inr (λ more. weaker more (on more))
 
 -- A request begins bytes, and others follow it, however both go on.
 abbrev pub Precedes : (input behind : List ℕ) → Framed → Type 0
@@ -39,7 +33,7 @@ requests_cons : (most : ℕ) (end : End) (left : Option (List ℕ)) (input behin
     → Precedes input behind q → closes q.head ≡ false → Covers left behind (λ bytes. AreRequests most bytes others end)
     → Covers left input (λ bytes. AreRequests (suc most) bytes (q ∷ others) end)
 requests_cons most end left input behind q others precedes stays =
-    Covers-weaker left behind input (λ bytes. AreRequests most bytes others end) (λ bytes. AreRequests (suc most) bytes (q ∷ others) end)
+    Covers-all left behind input (λ bytes. AreRequests most bytes others end) (λ bytes. AreRequests (suc most) bytes (q ∷ others) end)
     (λ more are. AreRequests-cons most (input ++ more) (behind ++ more) q others end (precedes more) stays are)
 
 -- A front of them is one with it.
@@ -47,7 +41,7 @@ front_cons : (most : ℕ) (left : Option (List ℕ)) (input behind : List ℕ) (
     → Precedes input behind q → closes q.head ≡ false → Covers left behind (λ bytes. IsFront most bytes others)
     → Covers left input (λ bytes. IsFront (suc most) bytes (q ∷ others))
 front_cons most left input behind q others precedes stays =
-    Covers-weaker left behind input (λ bytes. IsFront most bytes others) (λ bytes. IsFront (suc most) bytes (q ∷ others))
+    Covers-all left behind input (λ bytes. IsFront most bytes others) (λ bytes. IsFront (suc most) bytes (q ∷ others))
     (λ more are. IsFront-cons most (input ++ more) (behind ++ more) q others (precedes more) stays are)
 
 whole_cons : (most : ℕ) (end : End) (answered : ℕ) (left : Option (List ℕ)) (input behind : List ℕ) (q : Framed) (reply : Reply)

@@ -1,29 +1,47 @@
 -- What serving does, one turn in front of others.
-use Rattle.std.proofs.Common.{◌≡◌, ◌≢◌, ◌≤◌, ◌⊎◌, inl, inr, ℕ, ◌+◌, suc, zero, true, false, Option, List, [], ◌∷◌, ◌++◌, length, refl, sym, ap, ◌∙◌, subst, append_assoc, append-nil}
+use Rattle.std.proofs.Common.{◌≡◌, ◌≢◌, ◌≤◌, ◌⊎◌, inl, inr, ℕ, ◌+◌, suc, zero, true, false, Option, List, [], ◌∷◌, ◌++◌, length, refl, sym, ap, ◌∙◌, subst, append_assoc, append-nil, arith}
 use Rattle.std.specs.Io.KnownBytes.{Appends, Consumes, IsAtEnd}
 use Rattle.std.proofs.KnownBytes.{Appends-nil, Consumes-trans}
 use Rattle.lib_base.specs.Sources.{SourceView}
 use Rattle.lib_base.specs.Writes.{AppendsPart, SinkView}
 use Rattle.library_model.specs.declared.messages.Reply.{Reply}
+use Rattle.library_model.specs.Machine.{AnswersBy, Way, as_decided, keeper_failed, vault_failed, without_memory}
 use Rattle.library_model.specs.State.{State}
+use Rattle.library_model.proofs.Statuses.{Decides-IsBelow}
 use Rattle.http_model.specs.Asking.{asked_of}
 use Rattle.http_model.specs.Exchanges.{Exchange, exchange, answered_all, requests_of, spelled_of, spelled_to, spelled_all, ending, output}
 use Rattle.http_model.specs.Requests.{AreRequests, End, Framed, Frames, IsFront, IsUnframeable, closes, ended, turns, unframeable}
 use Rattle.http_model.specs.declared.refusals.FramingRefusal.{FramingRefusal}
 use Rattle.http_model.specs.declared.refusals.FramingRefusal.TheVariants.{Frame}
 use Rattle.http_model.specs.Refusals.{framing_refusal}
+use Rattle.http_model.proofs.AskingStatuses.{asked_of-below}
 use Rattle.library_http.proofs.Fronts.{AreRequests-closing, AreRequests-refused, AreRequests-none, AreRequests-turns, IsFront-one}
 use Rattle.http_inbox.specs.Inboxes.{Covers}
+use Rattle.http_inbox.proofs.CoversLaws.{Covers-weaker}
 use Rattle.catalogue_core.specs.Kept.{Keeps}
 use Rattle.library_http.specs.declared.serving.How.{How}
 use Rattle.library_http.specs.declared.serving.How.TheVariants.{Ended, Turns, Unframeable, SourceFault, SinkFault, Memory}
 use Rattle.library_http.specs.Acts.{Acts}
-use Rattle.library_http.specs.Sessions.{BreaksOff, BreaksOffAtEnd, CutShort, EndsAs, Serves, Session}
+use Rattle.library_http.specs.Sessions.{BreaksOff, BreaksOffAtEnd, CutShort, EndsAs, Serves, Session, damaged_status}
 use Rattle.library_http.specs.Turns.{Finds, GoesOn, PartlyReplied, RefusesBy, Replied, SoFar, StopsIn}
 use Rattle.library_http.specs.World.{World}
-use Rattle.library_http.proofs.Ending.{Covers-weaker, EndsAs-cons, Precedes}
+use Rattle.library_http.proofs.Ending.{EndsAs-cons, Precedes}
 use Rattle.library_http.proofs.Goings.{Appends-part_only}
 use Rattle.library_http.proofs.Making.{Made-none, Made-cons}
+
+-- No reply tells of a damaged file.
+undamaged : (s : State) (q : Framed) (reply : Reply) (w0 w1 : World) → Keeps w0.library s → Acts s (asked_of q) reply w0 w1
+    → reply.status ≢ damaged_status
+undamaged s q reply w0 w1 keeps acts = by_way acts.answers.way acts.answers.answers
+  where
+    by_way : (way : Way) → AnswersBy way s (asked_of q) reply acts.next → reply.status ≢ damaged_status
+    by_way (as_decided verdict) answers is =
+        let below = Decides-IsBelow s (asked_of q) verdict keeps.valid (asked_of-below q) answers.0 in
+        let said = ap (λ (r : Reply). r.status) answers.1 in
+        absurd (omega (arith, below, said, is))
+    by_way without_memory answers is = let said = ap (λ (r : Reply). r.status) answers.0 in absurd (omega (arith, said, is))
+    by_way (vault_failed verdict) answers is = let said = ap (λ (r : Reply). r.status) answers.3 in absurd (omega (arith, said, is))
+    by_way (keeper_failed verdict) answers is = let said = ap (λ (r : Reply). r.status) answers.2 in absurd (omega (arith, said, is))
 
 -- ---- serving that goes on
 
@@ -53,6 +71,7 @@ Serves-cons s most how answered held held_now source0 source1 source2 sink0 sink
       content = Consumes-trans source0.left source1.left source2.left finds.taken serves.taken finds.content serves.content;
       exchanges = exchange q reply ∷ serves.exchanges;
       made = Made-cons s (asked_of q) reply (answered_all serves.exchanges) w0 w1 w2 keeps goes.replied.acts serves.made;
+      undamaged = (undamaged s q reply w0 w1 keeps goes.replied.acts, serves.undamaged);
       ends = EndsAs-cons how most answered source2.left (held ++ (finds.taken ++ serves.taken)) (held_now ++ serves.taken) q reply
           serves.exchanges sink0.written sink1.written sink2.written
           (found_first held held_now serves.taken source0 source1 finds) goes.stays goes.replied.written serves.ends;
@@ -98,6 +117,7 @@ Serves-closed s more held held_now source0 source1 sink0 sink1 w0 w1 keeps finds
       exchanges = exchange q replied.reply ∷ [];
       made = Made-cons s (asked_of q) replied.reply [] w0 w1 w1 keeps replied.acts
           (Made-none replied.acts.next w1 replied.acts.leads.keeps);
+      undamaged = (undamaged s q replied.reply w0 w1 keeps replied.acts, tt);
       ends = record {
         requests = inr (λ rest. AreRequests-closing more ((held ++ finds.taken) ++ rest) (held_now ++ rest) q (finds.frames rest) shuts);
         counted = refl;
@@ -123,6 +143,7 @@ Serves-broke s more how held held_now source0 source1 sink0 sink1 w0 w1 keeps fi
       content = finds.content;
       exchanges = exchange q partly.reply ∷ [];
       made = Made-cons s (asked_of q) partly.reply [] w0 w1 w1 keeps partly.acts (Made-none partly.acts.next w1 partly.acts.leads.keeps);
+      undamaged = (undamaged s q partly.reply w0 w1 keeps partly.acts, tt);
       ends = ends (record {
         whole = [];
         last = exchange q partly.reply;
@@ -152,6 +173,7 @@ serves_none s most how held taken source0 source1 sink0 sink1 w keeps content en
   content = content;
   exchanges = [];
   made = Made-none s w keeps;
+  undamaged = tt;
   ends = ends;
 }
 
@@ -175,9 +197,9 @@ Serves-refused s more how refusal held taken source0 source1 sink0 sink1 w keeps
     serves_none s (suc more) how held taken source0 source1 sink0 sink1 w keeps content (by_how how refuses)
   where
     requests : Covers source1.left (held ++ taken) (λ bytes. AreRequests (suc more) bytes [] (unframeable (framing_refusal refusal)))
-    requests = Covers-weaker source1.left (held ++ taken) (held ++ taken) (λ bytes. IsUnframeable bytes refusal)
+    requests = Covers-weaker source1.left (held ++ taken) (λ bytes. IsUnframeable bytes refusal)
         (λ bytes. AreRequests (suc more) bytes [] (unframeable (framing_refusal refusal)))
-        (λ rest is. AreRequests-refused more ((held ++ taken) ++ rest) refusal is) unframed
+        (λ bytes is. AreRequests-refused more bytes refusal is) unframed
     breaks : AppendsPart sink0.written sink1.written (ending (unframeable (framing_refusal refusal)))
         → BreaksOffAtEnd (suc more) 0 source1.left (held ++ taken) [] sink0.written sink1.written
     breaks part = record {

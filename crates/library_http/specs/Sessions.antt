@@ -107,13 +107,19 @@ EndsAs Memory most answered left input exchanges old new =
     BreaksOff most answered left input exchanges old new
     ⊎ (BreaksOffAtEnd most answered left input exchanges old new ⊎ Unread most answered left input exchanges old new)
 
--- What serving at most so many requests does that ends so, over bytes that were held, and what was taken from the source behind them.
+-- the status that would tell of a file that is not the one that was kept (RFC 9110 section 15.6.1)
+abbrev pub damaged_status : ℕ
+damaged_status = 500
+
+-- What serving at most so many requests does that ends so, over bytes that were held, and what was taken from the source behind them. No
+-- reply tells of a damaged file.
 pub record Serves (held : List ℕ) (most : ℕ) (start : State) (how : How) (answered : ℕ) (source_before source_now : SourceView)
     (sink_before sink_now : SinkView) (before now : World) : Type 0 where
   pub taken : List ℕ
   pub content : Consumes source_before.left source_now.left taken
   pub exchanges : List Exchange
   pub made : Made start (answered_all exchanges) before now
+  pub undamaged : AllByRecursion (λ (e : Exchange). e.reply.status ≢ damaged_status) exchanges
   pub ends : EndsAs how most answered source_now.left (held ++ taken) exchanges sink_before.written sink_now.written
 
 -- What a session of at most so many requests does that ends so: its input is what was taken from the source.
