@@ -1,12 +1,3 @@
-pub mod AcceptedBounds
-pub mod Closings
-pub mod Imports
+pub mod Asked
 pub mod Loading
-pub mod NewAlbums
-pub mod Planned
-pub mod Puts
-pub mod Regroups
-pub mod Retakes
-pub mod Rooms
 pub mod SeenLaws
-pub mod Taken

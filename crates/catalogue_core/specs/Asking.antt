@@ -20,11 +20,11 @@ found_row_reply None = refusal NoRecording
 abbrev pub recording_reply_in : Tables → ℕ → Reply
 recording_reply_in t id = found_row_reply (find (λ (row : RecordingRow). row.id == id) t.recordings)
 
--- what is replied about the album's row that was looked for
-abbrev pub found_album_row_reply : Tables → Option AlbumRow → Reply
-found_album_row_reply t (Some row) = album_row_reply 200 row (map recording_id (members_in row.id t.recordings))
-found_album_row_reply t None = refusal NoAlbum
+-- what is replied about the album of an id, whose row was looked for
+abbrev pub found_album_row_reply : Tables → ℕ → Option AlbumRow → Reply
+found_album_row_reply t id (Some row) = album_row_reply 200 row (map recording_id (members_in id t.recordings))
+found_album_row_reply t id None = refusal NoAlbum
 
 -- what is replied about the album of an id in tables
 abbrev pub album_reply_in : Tables → ℕ → Reply
-album_reply_in t id = found_album_row_reply t (find (λ (row : AlbumRow). row.id == id) t.albums)
+album_reply_in t id = found_album_row_reply t id (find (λ (row : AlbumRow). row.id == id) t.albums)

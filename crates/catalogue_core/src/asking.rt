@@ -41,12 +41,14 @@ fn ask_album(library: &Library, id: u32) -> Result<Reply, Memory>
     ensures { (t : Tables) → Holds library.now t → IfOk result (λ reply. reply ≡ album_reply_in t id) }
 {
     let alloc = library.alloc;
-    match (library.rows.album(id), library.rows.members(id)) {
-        (Some(row), Some(members)) => {
-            describe_album(alloc, 200, row, ids_of(alloc, members)?.as_slice())
-        }
-        _ => refuse(alloc, Refusal::NoAlbum),
-    }
+    let Some(row) = library.rows.album(id) else {
+        return refuse(alloc, Refusal::NoAlbum);
+    };
+    let Some(members) = library.rows.members(id) else {
+        return refuse(alloc, Refusal::NoAlbum);
+    };
+    let ids = ids_of(alloc, members)?;
+    describe_album(alloc, 200, row, ids.as_slice())
 }
 
 /// The ids of an album's recordings, ascending.

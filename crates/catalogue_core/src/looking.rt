@@ -23,10 +23,9 @@ pub(crate) fn is_there(library: &Library, album: Option<u32>) -> bool
 pub(crate) fn count_of(library: &Library, id: u32) -> Option<usize>
     ensures { (t : Tables) → Holds library.now t → IsCountOf t id result }
 {
-    match (library.rows.album(id), library.rows.members(id)) {
-        (Some(_), Some(members)) => Some(members.len()),
-        _ => None,
-    }
+    library.rows.album(id)?;
+    let members = library.rows.members(id)?;
+    Some(members.len())
 }
 
 /// A copy of the row of the recording of an id, if it is there.
