@@ -4,4 +4,5 @@ mod Fronts
 mod Goings
 mod Making
 mod Releases
+mod Replying
 mod Serving
