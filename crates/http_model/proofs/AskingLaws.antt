@@ -31,13 +31,13 @@ use Rattle.http_model.specs.Requests.{Extent, Framed, Frames, extent, extent_by,
 
 -- ---- the form of what is asked
 
+some-same : (a b : List ℕ) → Some a ≡ Some b → a ≡ b
+some-same a b e = cc e
+
 -- What passes a test, where it does.
 passed : (text name : List ℕ) (test : List ℕ → Bool) (b : Bool) → test text ≡ b → (if b then Some text else None) ≡ Some name
     → test name ≡ true
 passed text name test true is same = ap test (sym (some-same text name same)) ∙ is
-  where
-    some-same : (a b : List ℕ) → Some a ≡ Some b → a ≡ b
-    some-same a b e = cc e
 passed text name test false is same = absurd (cc same)
 
 -- A text that is taken as a name is one.
@@ -66,7 +66,7 @@ name_in-form body name same =
 
 -- The name that header lines give is one.
 pub name_given-form : (values : List (List ℕ)) (name : List ℕ) → name_given values ≡ Some name → is_name name ≡ true
-name_given-form [] name same = subst (λ (text : List ℕ). is_name text ≡ true) (cc same) refl
+name_given-form [] name same = subst (λ (text : List ℕ). is_name text ≡ true) (some-same [] name same) refl
 name_given-form (value ∷ []) name same = if_name-form value name same
 name_given-form (value ∷ other ∷ others) name same = absurd (cc same)
 
