@@ -18,8 +18,8 @@ use Rattle.http_model.specs.Spelling.{spelled, spelled_refusal}
 -- The reply to the import of a recording.
 pub spelled-recording_reply : spelled false [] (recording_reply 201 row_recording)
     ≡ codes "HTTP/1.1 201 Created" ++ 13 ∷ 10 ∷ codes "Content-Type: application/json"
-    ++ 13 ∷ 10 ∷ codes "Content-Length: 163"
-    ++ 13 ∷ 10 ∷ 13 ∷ 10 ∷ codes "{\"channels\":1,\"depth\":16,\"frames\":4,\"gain\":null,\"id\":1,\"kind\":\"wave\",\"loudness\":null,\"momentary\":null,\"peak\":\"0.537233\",\"range\":null,\"short\":null,\"true_peak\":-540}"
+    ++ 13 ∷ 10 ∷ codes "Content-Length: 195"
+    ++ 13 ∷ 10 ∷ 13 ∷ 10 ∷ codes "{\"album\":null,\"channels\":1,\"depth\":16,\"frames\":4,\"gain\":null,\"id\":1,\"kind\":\"wave\",\"loudness\":null,\"momentary\":null,\"name\":\"\",\"peak\":\"0.537233\",\"range\":null,\"short\":null,\"take\":1,\"true_peak\":-540}"
 unfolding serde_json_on_literals digits millionths
 spelled-recording_reply = refl
 
