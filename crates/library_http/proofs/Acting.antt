@@ -16,11 +16,14 @@ use Rattle.library_model.specs.declared.messages.Reply.{Reply}
 use Rattle.library_model.specs.declared.refusals.Refusal.TheVariants as cause
 use Rattle.library_model.specs.Asked.{Asked, change, command, puts_file, spares_vault, takes_file}
 use Rattle.library_model.specs.Exchanges.{exchange, counted}
+use Rattle.library_model.specs.Granted.{IsGrantable}
+use Rattle.library_model.specs.InOrder.{IsKeptStatus}
 use Rattle.library_model.specs.Machine.{Answer, AnswersBy, Decides, Way, accepts, stays, as_decided, without_memory, vault_failed, keeper_failed, has_take, taken_out}
 use Rattle.library_model.specs.Refusals.{status_of}
 use Rattle.library_model.specs.Replies.{refusal}
 use Rattle.library_model.specs.Stands.{AsksWithin, HoldsFiles, HoldsFileOf, IsValid, tables_of}
 use Rattle.library_model.specs.State.{Recording, State}
+use Rattle.library_model.proofs.Granting.{Decides-granted}
 use Rattle.library_model.proofs.Imports.{AllByRecursion-weaker, HoldsFiles-kept}
 use Rattle.library_model.proofs.Statuses.{Decides-IsBelow, RefusesBelow}
 use Rattle.library_model.proofs.TakesOut.{taken_out-gone, taken_out-same, taken_out-spared}
@@ -111,6 +114,13 @@ settled_without_faults s asked reply next w0 w1 answer counts vault keeper = by_
         counted-same reply (status_of cause.Keeper) (ap (λ (r : Reply). r.status) answers.2) in
         absurd (keeper (subst (λ (n : ℕ). RoseBy n w0.keeper.faults w1.keeper.faults) counted counts.keeper))
 
+-- what nothing refuses is granted then, or memory was wanting
+settled_grants : (s : State) (asked : Asked) (reply : Reply) (next : State) → IsSettled s asked reply next → IsGrantable s asked
+    → IsKeptStatus reply.status ⊎ (reply ≡ refusal cause.Memory)
+settled_grants s asked reply next (inl (verdict, answers)) may =
+    inl (subst (λ (r : Reply). IsKeptStatus r.status) (sym answers.1) (Decides-granted s asked verdict may answers.0))
+settled_grants s asked reply next (inr answers) may = inr answers.0
+
 -- ---- requests that change nothing
 
 -- The library keeps what it kept, and the vault changed under the next take alone: the state stays.
@@ -153,6 +163,7 @@ Acts-kept s asked reply w0 w1 keeps answer again others tables counts calls = re
   keys = Goes-weaker (OthersKept s.next_take) (OtherKeysKept s.next_take (taken_out s s))
       (λ old new kept key apart differs. kept key apart) w0.vault.blobs w1.vault.blobs others;
   complete = settled_without_faults s asked reply s w0 w1 answer counts;
+  granted = λ vault keeper may. settled_grants s asked reply s (settled_without_faults s asked reply s w0 w1 answer counts vault keeper) may;
 }
 
 -- One that touches nothing at all.
@@ -380,6 +391,7 @@ Acts-made s token mark wanted p reply r lib0 lib1 lib2 lib3 k0 k2 v0 v1 v3 keeps
               swept key (subst (λ (takes : List ℕ). AllByRecursion (λ take. key ≢ take) takes) prepares.released_is differs) ∙ kept key apart)
           v0.blobs v1.blobs v3.blobs others (swept_keys p.released v1 v3 clears);
       complete = λ _ _. inl (accepts p.reply next, (prepares.decides, made.reply_is, refl));
+      granted = λ _ _ may. settled_grants s asked reply next (inl (accepts p.reply next, (prepares.decides, made.reply_is, refl))) may;
     }
 
 -- A change that was staged, and committed and swept, acts.

@@ -103,6 +103,15 @@ SoFar-turn most more start answered held held_now source0 source1 source2 sink0 
   counted : (count : ℕ) → answered + suc count ≡ answered + 1 + count
   counted count = omega arith
 
+-- Serving the rest ended so.
+pub SoFar-ends : (most more : ℕ) (start : State) (answered count all : ℕ) (how : How) (held : List ℕ) (source0 source1 source2 : SourceView)
+    (sink0 sink1 sink2 : SinkView) (w0 w1 w2 : World) → (so_far : SoFar most more start answered held source0 source1 sink0 sink1 w0 w1)
+    → Serves held more so_far.state how count source1 source2 sink1 sink2 w1 w2 → all ≡ answered + count
+    → Session most start how all source0 source2 sink0 sink2 w0 w2
+SoFar-ends most more start answered count all how held source0 source1 source2 sink0 sink1 sink2 w0 w1 w2 so_far serves is =
+    subst (λ (n : ℕ). Session most start how n source0 source2 sink0 sink2 w0 w2) (sym is)
+    (so_far.goes how count source2 sink2 w2 serves)
+
 -- ---- serving that ends with a request
 
 -- A request that closes was answered and replied to.

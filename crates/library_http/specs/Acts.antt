@@ -8,8 +8,11 @@ use Rattle.library_model.specs.declared.messages.Reply.{Reply}
 use Rattle.library_model.specs.declared.refusals.Refusal.TheVariants as cause
 use Rattle.library_model.specs.Asked.{Asked, spares_vault}
 use Rattle.library_model.specs.Exchanges.{Exchange, exchange, count_status}
+use Rattle.library_model.specs.Granted.{IsGrantable}
+use Rattle.library_model.specs.InOrder.{IsKeptStatus}
 use Rattle.library_model.specs.Machine.{Verdict, Answer, AnswersBy, as_decided, without_memory, taken_out}
 use Rattle.library_model.specs.Refusals.{status_of}
+use Rattle.library_model.specs.Replies.{refusal}
 use Rattle.library_model.specs.Stands.{tables_of, HoldsFiles}
 use Rattle.library_model.specs.State.{State}
 use Rattle.catalogue_core.specs.Kept.{Keeps}
@@ -57,7 +60,7 @@ IsSettled s asked reply next =
 
 -- A request was answered from a state. What it took out is swept, or the vault's count rose. The vault changed under the next take and
 -- what was taken out alone, and was not called by a request that spares it. Where neither count of faults rose, the request was answered
--- as it is decided, or memory was wanting.
+-- as it is decided, or memory was wanting; so an import or a retake that nothing refuses was granted then.
 pub record Acts (s : State) (asked : Asked) (reply : Reply) (before now : World) : Type 0 where
   pub next : State
   pub answers : Answer s asked reply next
@@ -67,6 +70,8 @@ pub record Acts (s : State) (asked : Asked) (reply : Reply) (before now : World)
   pub keys : Goes (OtherKeysKept s.next_take (taken_out s next)) before.vault.blobs now.vault.blobs
   pub complete : ¬ Rose before.vault.faults now.vault.faults → ¬ Rose before.keeper.faults now.keeper.faults
       → IsSettled s asked reply next
+  pub granted : ¬ Rose before.vault.faults now.vault.faults → ¬ Rose before.keeper.faults now.keeper.faults → IsGrantable s asked
+      → IsKeptStatus reply.status ⊎ (reply ≡ refusal cause.Memory)
 
 -- The exchanges were made in order, each from the state and the world that the one before it left.
 abbrev pub ActInTurn : State → List Exchange → State → World → World → Type 0

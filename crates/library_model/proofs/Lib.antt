@@ -30,3 +30,4 @@ pub mod Fitting
 pub mod Refusing
 pub mod Closing
 pub mod Statuses
+pub mod Granting
