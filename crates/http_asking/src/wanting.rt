@@ -71,7 +71,9 @@ fn wanted_at(
             bytes: body,
         })),
         Resource::RecordingAlbum(recording) => regroup(alloc, recording, &body),
-        Resource::Recording(recording) => Ok(Wanted::Command(Command::RemoveRecording { recording })),
+        Resource::Recording(recording) => Ok(Wanted::Command(Command::RemoveRecording {
+            recording,
+        })),
         Resource::Album(album) => Ok(Wanted::Command(Command::RemoveAlbum { album })),
     }
 }
