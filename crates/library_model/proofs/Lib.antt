@@ -26,13 +26,13 @@ pub mod Numbers
 pub mod Counting
 pub mod MadeStates
 pub mod ValidSteps
+pub mod TakesOut
 pub mod Looking
 pub mod Fitting
 pub mod Members
 pub mod SegmentChanges
 pub mod Taking
 pub mod TakesGone
-pub mod TakesOut
 pub mod Statuses
 pub mod Leading
 pub mod RowsPut
@@ -43,3 +43,4 @@ pub mod LeadsRegroup
 pub mod LeadsRemove
 pub mod Refusing
 pub mod Closing
+pub mod Granting

@@ -1,4 +1,4 @@
--- There is one verdict, and an import or a retake within the limits is granted.
+-- There is one verdict, and an import within the limits is granted.
 use Rattle.std.proofs.Common.{◌≡◌, ◌||◌, ℕ, Bool, true, false, Option, None, Some, nat_le, List, sym, ap, ◌∙◌, subst}
 use Rattle.lib_base.specs.declared.files.Summary.{Summary}
 use Rattle.file_model.specs.Pcm.{Pcm}
@@ -97,26 +97,5 @@ import_granted s token mark album name file sound summary verdict fresh there fi
     let lacks : Bool = nat_le numbers_end s.next_recording || nat_le numbers_end s.next_take in
     let made : Sums step decided =
     passed lacks Ids step decided left (passed (is_crowded album next.recordings) AlbumFull (unless lacks Ids step) decided room sums) in
-    ap (λ (v : Verdict). (verdict_reply v).status) of_fresh.2
-    ∙ ap (λ (v : Verdict). (verdict_reply (keeping token mark v)).status) made.2
-
--- ---- retakes
-
--- Another accepted file for a recording that is there is granted under a fresh token, where a take is left: its verdict replies 200.
-pub retake_granted : (s : State) (token mark : List ℕ) (id : ℕ) (r : Recording) (file : List ℕ) (sound : Pcm) (summary : Summary)
-    (verdict : Verdict) → kept_under token s.replies ≡ None → recording_of id s.recordings ≡ Some r → Finds file (measured sound summary)
-    → nat_le numbers_end s.next_take ≡ false → Decides s (change token mark (command (Retake id file))) verdict
-    → (verdict_reply verdict).status ≡ 200
-retake_granted s token mark id r file sound summary verdict fresh there finds left decides =
-    let Of : Option Kept → Type 0 = λ kept. DecidesChange s token mark (command (Retake id file)) kept verdict in
-    let of_fresh : Of None = subst Of fresh decides in
-    let decided : Verdict = of_fresh.0 in
-    let Named : Option Recording → Type 0 = λ found. OfRecording found (λ q. OfFile file (retake_step s q file)) decided in
-    let by : Named (Some r) = subst Named there of_fresh.1 in
-    let same : by.0 ≡ measured sound summary = Finds_unique file by.0 (measured sound summary) by.1 finds in
-    let OfFinding : Finding → Type 0 = λ f. Sums (retake_step s r file f) decided in
-    let sums : OfFinding (measured sound summary) = subst OfFinding same by.2 in
-    let step : Step = makes (λ _. recording_reply 200 (retaken s r file sound summary)) (retaking s r file sound summary) in
-    let made : Sums step decided = passed (nat_le numbers_end s.next_take) Ids step decided left sums in
     ap (λ (v : Verdict). (verdict_reply v).status) of_fresh.2
     ∙ ap (λ (v : Verdict). (verdict_reply (keeping token mark v)).status) made.2
