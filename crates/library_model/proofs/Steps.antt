@@ -1,5 +1,5 @@
 -- What an accepted command makes.
-use Rattle.std.proofs.Common.{◌≡◌, ◌||◌, Bool, true, false, nat_le, nat_lt, Option, None, Some, List, [], length, inl, inr, refl, ap, ◌∙◌, subst}
+use Rattle.std.proofs.Common.{◌≡◌, ◌||◌, ℕ, Bool, true, false, nat_le, nat_lt, Option, None, Some, List, [], length, inl, inr, refl, ap, ◌∙◌, subst}
 use Rattle.lib_base.specs.declared.files.Summary.{Summary}
 use Rattle.file_model.specs.Pcm.{Pcm}
 use Rattle.library_model.specs.declared.messages.Command.{Command}
