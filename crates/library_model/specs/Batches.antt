@@ -45,7 +45,7 @@ pub record IsResummed (albums : List AlbumRow) (next : Tables) (id : ℕ) (row :
   pub row_is : row ≡ record old { summary = row.summary }
   pub summed : IsSummedAlbum next row
 
--- so is each row that of the album of its id
+-- the rows are those of the albums of these ids, one for each
 abbrev pub AreResummed : List AlbumRow → Tables → List ℕ → List AlbumRow → Type 0
 AreResummed albums next [] [] = ⊤
 AreResummed albums next [] (row ∷ rows) = ⊥
