@@ -1,4 +1,3 @@
-pub mod Deciding
-pub mod FoundRows
+pub mod Asked
 pub mod Loading
-pub mod Summing
+pub mod SeenLaws

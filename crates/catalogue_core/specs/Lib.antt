@@ -1,8 +1,9 @@
 pub mod Asking
 pub mod Causes
 pub mod Committing
-pub mod Examining
-pub mod Imports
 pub mod Kept
 pub mod Opening
+pub mod Requests
+pub mod Seeing
 pub mod Staging
+pub mod Sweeping

@@ -1,9 +1,9 @@
+pub mod Albums
 pub mod Answering
+pub mod Backed
 pub mod Changed
-pub mod IdLemmas
-pub mod Importing
+pub mod Moved
 pub mod Placed
 pub mod Summed
 pub mod Taken
-pub mod Tokens
 pub mod Unbroken

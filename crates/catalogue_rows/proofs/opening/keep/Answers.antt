@@ -6,7 +6,7 @@ use Rattle.keeper_store.specs.Puts.{Ascends, album_less, recording_less, reply_l
 use Rattle.album_merge.specs.Members.{Kept, IsAlbumOf}
 use Rattle.album_merge.specs.Tallies.{Tallied}
 use Rattle.library_model.specs.RowRules.{measured_in}
-use Rattle.catalogue_rows.specs.Tallied.{HasOwn, album_of, album_row, album_members, recording_row, own_tally}
+use Rattle.catalogue_rows.specs.Holding.{HasOwn, album_of, album_row, album_members, recording_row, own_tally}
 use Rattle.catalogue_rows.proofs.Placed.{AllZip-as, AllZip-long, AllZip-parts, Ascends-parts}
 use Rattle.catalogue_rows.proofs.opening.keep.Goals as goal
 
