@@ -21,3 +21,10 @@ pub mod Exits
 pub mod Steps
 pub mod Resummed
 pub mod NextTables
+pub mod Counting
+pub mod MadeStates
+pub mod ValidSteps
+pub mod Looking
+pub mod Fitting
+pub mod Refusing
+pub mod Closing

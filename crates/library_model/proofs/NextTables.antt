@@ -77,16 +77,16 @@ found_has P id (q ∷ rs) r all is = cases (q.id == id) refl (found_has P id rs 
     cases false same rest is = rest is
 
 -- an album that is there has its row
-has_album-row : (id : ℕ) (albums : List Album) → has_album id (map album_row albums) ≡ is_there (Some id) albums
+pub has_album-row : (id : ℕ) (albums : List Album) → has_album id (map album_row albums) ≡ is_there (Some id) albums
 has_album-row id [] = refl
 has_album-row id (a ∷ albums) = ap (λ (b : Bool). (a.id == id) || b) (has_album-row id albums)
 
-there-row : (album : Option ℕ) (albums : List Album) → is_there album albums ≡ true → album_is_there album (map album_row albums) ≡ true
+pub there-row : (album : Option ℕ) (albums : List Album) → is_there album albums ≡ true → album_is_there album (map album_row albums) ≡ true
 there-row None albums there = refl
 there-row (Some id) albums there = has_album-row id albums ∙ there
 
 -- rows count as many recordings of an album as it has
-count_of-rows : (id : ℕ) (rs : List Recording) → member_count id (map recording_row rs) ≡ length (members id rs)
+pub count_of-rows : (id : ℕ) (rs : List Recording) → member_count id (map recording_row rs) ≡ length (members id rs)
 count_of-rows id rs = rows rs ∙ sym (length-filter (λ (r : Recording). is_in_album id r.album) rs)
   where
     rows : (rs : List Recording) → member_count id (map recording_row rs) ≡ count_by (λ (r : Recording). is_in_album id r.album) rs
@@ -100,7 +100,7 @@ count_of-rows id rs = rows rs ∙ sym (length-filter (λ (r : Recording). is_in_
 -- ---- a recording is put
 
 -- albums have not too many where the one that the recording is in has not
-few_by_test : (r : Recording) (rs : List Recording) (albums : List AlbumRow)
+pub few_by_test : (r : Recording) (rs : List Recording) (albums : List AlbumRow)
     → AllByRecursion (λ (a : AlbumRow). member_count a.id (map recording_row rs) ≤ MOST_MEMBERS) albums
     → is_crowded r.album (put recording_before r rs) ≡ false
     → AllByRecursion (λ (a : AlbumRow). member_count a.id (put recording_less (recording_row r) (map recording_row rs)) ≤ MOST_MEMBERS) albums
@@ -139,15 +139,15 @@ few_by_test r rs albums few room =
         omega (arith, few, same)
 
 -- of two numbers one test holds
-less_or_same : (m n : ℕ) → nat_lt m n ≡ true → (m == n) ≡ true → ⊥
+pub less_or_same : (m n : ℕ) → nat_lt m n ≡ true → (m == n) ≡ true → ⊥
 less_or_same m n less same =
     let one : m < n = grind (arith, nat_tests) in let other : m ≡ n = grind (arith, nat_tests) in omega (arith, one, other)
 
-more_or_same : (m n : ℕ) → nat_lt n m ≡ true → (m == n) ≡ true → ⊥
+pub more_or_same : (m n : ℕ) → nat_lt n m ≡ true → (m == n) ≡ true → ⊥
 more_or_same m n more same =
     let one : n < m = grind (arith, nat_tests) in let other : m ≡ n = grind (arith, nat_tests) in omega (arith, one, other)
 
-neither : (m n : ℕ) → nat_lt m n ≡ false → nat_lt n m ≡ false → (m == n) ≡ false → ⊥
+pub neither : (m n : ℕ) → nat_lt m n ≡ false → nat_lt n m ≡ false → (m == n) ≡ false → ⊥
 neither m n less more same =
     let one : n ≤ m = grind (arith, nat_tests) in
     let other : m ≤ n = grind (arith, nat_tests) in
@@ -158,7 +158,7 @@ abbrev weight_of : Bool → ℕ
 weight_of inside = cond inside 1 0
 
 -- a row put over one of its id and of its album changes no count
-few_over : (id : ℕ) (row : RecordingRow) (rows : List RecordingRow) (old : RecordingRow) → Ascends recording_less rows
+pub few_over : (id : ℕ) (row : RecordingRow) (rows : List RecordingRow) (old : RecordingRow) → Ascends recording_less rows
     → find (λ (r : RecordingRow). r.id == row.id) rows ≡ Some old → is_in_album id old.album ≡ is_in_album id row.album
     → member_count id (put recording_less row rows) ≤ member_count id rows
 few_over id row [] old rise found same = absurd (cc found)
@@ -199,7 +199,7 @@ few_over id row (x ∷ rows) old rise found same =
 -- ---- takes of others
 
 -- no other recording has the take of one that was found
-others_differ : (id : ℕ) (rs : List Recording) (r : Recording) → Differ (map (λ (q : Recording). q.take) rs)
+pub others_differ : (id : ℕ) (rs : List Recording) (r : Recording) → Differ (map (λ (q : Recording). q.take) rs)
     → recording_of id rs ≡ Some r → AllByRecursion (λ (q : Recording). q.id ≢ r.id → q.take ≢ r.take) rs
 others_differ id [] r differ is = tt
 others_differ id (q ∷ rs) r differ is = cases (q.id == id) refl (others_differ id rs r differ.1) is

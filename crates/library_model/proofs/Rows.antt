@@ -108,20 +108,20 @@ refusal-keeper = refl
 -- ---- steps
 
 -- The first import makes recording 1.
-pub import_step-makes : import_step empty_state [] (four_frames 1) (measured row_sound row_summary)
+pub import_step-makes : import_step empty_state None [] (four_frames 1) (measured row_sound row_summary)
     ≡ makes (λ _. json 201 (codes "{\"album\":null,\"channels\":1,\"depth\":16,\"frames\":4,\"gain\":null,\"id\":1,\"kind\":\"wave\",\"loudness\":null,\"momentary\":null,\"name\":\"\",\"peak\":\"0.537233\",\"range\":null,\"short\":null,\"take\":1,\"true_peak\":-540}"))
     (record empty_state { next_recording = 2; next_take = 2; recordings = row_recording ∷ [] })
 unfolding serde_json_on_literals digits millionths
 import_step-makes = refl
 
 -- From the state that it leads to, a question after recording 1 is answered with the same body.
-pub question_reply-imported : question_reply (imported empty_state [] (four_frames 1) row_sound row_summary) (about.Recording 1)
+pub question_reply-imported : question_reply (imported empty_state None [] (four_frames 1) row_sound row_summary) (about.Recording 1)
     ≡ json 200 (codes "{\"album\":null,\"channels\":1,\"depth\":16,\"frames\":4,\"gain\":null,\"id\":1,\"kind\":\"wave\",\"loudness\":null,\"momentary\":null,\"name\":\"\",\"peak\":\"0.537233\",\"range\":null,\"short\":null,\"take\":1,\"true_peak\":-540}")
 unfolding serde_json_on_literals digits millionths
 question_reply-imported = refl
 
 -- Another one finds nothing.
-pub question_reply-other : question_reply (imported empty_state [] (four_frames 1) row_sound row_summary) (about.Recording 2)
+pub question_reply-other : question_reply (imported empty_state None [] (four_frames 1) row_sound row_summary) (about.Recording 2)
     ≡ json 404 (codes "{\"error\":\"no-recording\"}")
 question_reply-other = refl
 
@@ -137,7 +137,7 @@ recording_of-zero s valid = not_given s.next_recording s.recordings (given_of s 
         rw other (not_given next recordings given.1)
 
 -- A file that breaks a rule is refused by it.
-pub import_step-broken : import_step empty_state [] (codes "RIFF") (broken_by (V 3) 4)
+pub import_step-broken : import_step empty_state None [] (codes "RIFF") (broken_by (V 3) 4)
     ≡ refuses (json 422 (codes "{\"error\":\"format\",\"place\":4,\"rule\":\"V3\"}"))
 unfolding digits
 import_step-broken = refl
@@ -147,12 +147,12 @@ abbrev pub row_full : State
 row_full = record empty_state { next_recording = 2147483647 }
 
 -- No number is left there.
-pub import_step-full : import_step row_full [] (four_frames 1) (measured row_sound row_summary)
+pub import_step-full : import_step row_full None [] (four_frames 1) (measured row_sound row_summary)
     ≡ refuses (json 409 (codes "{\"error\":\"ids\"}"))
 import_step-full = refl
 
 -- The state before it has one number left.
-pub import_step-last : import_step (record row_full { next_recording = 2147483646 }) (codes "A") (four_frames 1) (measured row_sound row_summary)
+pub import_step-last : import_step (record row_full { next_recording = 2147483646 }) None (codes "A") (four_frames 1) (measured row_sound row_summary)
     ≡ makes (λ _. recording_reply 201 (record row_recording { id = 2147483646; name = codes "A" }))
     (record empty_state {
       next_recording = 2147483647;

@@ -1,4 +1,5 @@
 pub mod Asked
+pub mod Batches
 pub mod Bodies
 pub mod Exchanges
 pub mod Findings
