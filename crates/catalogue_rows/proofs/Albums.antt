@@ -1,5 +1,5 @@
 -- One of ascending albums changes.
-use Rattle.std.proofs.Common.{◌≡◌, ◌≢◌, ◌<◌, ◌≤◌, ◌+◌, ◌==◌, ℕ, zero, suc, Bool, true, false, cond, List, [], ◌∷◌, map, nat_lt, refl, sym, ap, ◌∙◌, subst, arith, All}
+use Rattle.std.proofs.Common.{◌≡◌, ◌≢◌, ◌<◌, ◌≤◌, ◌+◌, ◌==◌, ℕ, zero, suc, Bool, true, false, cond, List, [], ◌∷◌, length, map, nat_lt, Some, refl, sym, ap, ◌∙◌, subst, arith, All}
 use Rattle.std.proofs.Math.ListN.{get_or, set}
 use Rattle.std.proofs.lemmas.Bool.Decides.{nat_tests}
 use Rattle.std.proofs.lemmas.List.Elements.{All-head, All-tail}
@@ -8,12 +8,14 @@ use Rattle.lib_base.specs.declared.files.Measured.{Measured}
 use Rattle.keeper_store.specs.declared.row_types.AlbumRow.{AlbumRow}
 use Rattle.keeper_store.specs.Puts.{Ascends, IsFirstOfNumber, album_less}
 use Rattle.keeper_store.proofs.Putting.{AllByRecursion-weaken, All-at}
-use Rattle.album_merge.specs.Members.{Kept, IsAlbumOf}
+use Rattle.album_merge.specs.Members.{Kept, IsAlbumOf, with_recording, without_recording}
 use Rattle.library_model.specs.RowRules.{has_album}
 use Rattle.catalogue_rows.specs.declared.kept.KeptAlbum.{KeptAlbum}
 use Rattle.catalogue_rows.specs.Holding.{album_row}
 use Rattle.catalogue_rows.specs.KeptOrders.{kept_album_id, kept_album_less}
-use Rattle.catalogue_rows.specs.Places.{AreMembersOf, HavePlaces}
+use Rattle.catalogue_rows.specs.Places.{AreMembersOf, HavePlaces, with_over, without_one}
+use Rattle.catalogue_rows.specs.Room.{and_one, one_in}
+use Rattle.catalogue_rows.proofs.Placed.{Ascends-parts}
 
 -- what holds of all rows holds otherwise where no row has a number
 pub otherwise : (P Q : KeptAlbum → Type 0) (album : ℕ) (ks : List KeptAlbum) → ((k : KeptAlbum) → k.row.id ≢ album → P k → Q k)
@@ -76,3 +78,92 @@ not_missing album (k ∷ ks) has none =
     let first : k.row.id ≢ album = All-head (λ (x : KeptAlbum). kept_album_id x ≢ album) k ks none in
     let test : (k.row.id == album) ≡ false = grind (arith, nat_tests, first) in
     not_missing album ks (rw test at has) (All-tail (λ (x : KeptAlbum). kept_album_id x ≢ album) k ks none)
+
+-- Of ascending albums the one of an id gets other members.
+pub record Sets (album : ℕ) (members : Kept) (old new : List KeptAlbum) : Type 0 where
+  pub rise : Ascends kept_album_less old
+  pub place : ℕ
+  pub at : IsFirstOfNumber kept_album_id album old place
+  pub was : KeptAlbum
+  pub was_is : was ≡ get_or old place was
+  pub new_is : new ≡ set old place (record was { members = members })
+
+-- what is at a place, whatever is said where there is no place
+at_any : (ks : List KeptAlbum) (place : ℕ) (k d : KeptAlbum) → place < length ks → k ≡ get_or ks place k → k ≡ get_or ks place d
+at_any [] place k d inside is = absurd (omega (arith, inside))
+at_any (x ∷ ks) zero k d inside is = is
+at_any (x ∷ ks) (suc place) k d inside is = at_any ks place k d (omega (arith, inside)) is
+
+-- its id, and what holds of it since it holds of all
+pub was_id : (album : ℕ) (members : Kept) (old new : List KeptAlbum) (s : Sets album members old new) → s.was.row.id ≡ album
+was_id album members old new s = ap kept_album_id s.was_is ∙ s.at.same s.was
+
+pub was_holds : (P : KeptAlbum → Type 0) (album : ℕ) (members : Kept) (old new : List KeptAlbum) (s : Sets album members old new)
+    → AllByRecursion P old → P s.was
+was_holds P album members old new s all = subst P (sym s.was_is) (All-at P old all s.place s.was s.at.inside)
+
+-- the rows are as they were, and ascend
+pub sets_rows : (album : ℕ) (members : Kept) (old new : List KeptAlbum) → Sets album members old new → map album_row new ≡ map album_row old
+sets_rows album members old new s =
+    let kept : KeptAlbum = record s.was { members = members } in
+    ap (map album_row) s.new_is ∙ rows_set old s.place kept (ap album_row (at_any old s.place s.was kept s.at.inside s.was_is))
+
+pub sets_ascend : (album : ℕ) (members : Kept) (old new : List KeptAlbum) → Sets album members old new → Ascends kept_album_less new
+sets_ascend album members old new s =
+    Ascends-parts album_less album_row new
+    (subst (Ascends album_less) (sym (sets_rows album members old new s)) (ascend_rows old s.rise))
+
+-- what the albums stand for, where the others stand for the same
+pub sets_members : (of next : ℕ → List (ℕ × Measured)) (album : ℕ) (members : Kept) (old new : List KeptAlbum)
+    (s : Sets album members old new) → ((other : ℕ) → other ≢ album → of other ≡ next other)
+    → (IsAlbumOf s.was.members (of album) → IsAlbumOf members (next album)) → AreMembersOf of old → AreMembersOf next new
+sets_members of next album members old new s others here all =
+    let P : KeptAlbum → Type 0 = λ k. IsAlbumOf k.members (of k.row.id) in
+    let Q : KeptAlbum → Type 0 = λ k. IsAlbumOf k.members (next k.row.id) in
+    let id = was_id album members old new s in
+    let was : IsAlbumOf s.was.members (of album) =
+    subst (λ (n : ℕ). IsAlbumOf s.was.members (of n)) id (was_holds P album members old new s all) in
+    let now : IsAlbumOf members (next s.was.row.id) = subst (λ (n : ℕ). IsAlbumOf members (next n)) (sym id) (here was) in
+    subst (AllByRecursion Q) (sym s.new_is)
+    (set_all P Q album old s.place (record s.was { members = members }) s.rise s.at
+    (λ k apart holds. subst (IsAlbumOf k.members) (others k.row.id apart) holds) now all)
+
+-- their places, where the others have the same
+pub sets_places : (more next : ℕ → ℕ) (album : ℕ) (members : Kept) (old new : List KeptAlbum) (s : Sets album members old new)
+    → ((other : ℕ) → other ≢ album → next other ≡ more other) → (more album ≤ s.was.members.spare → next album ≤ members.spare)
+    → HavePlaces more old → HavePlaces next new
+sets_places more next album members old new s others here all =
+    let P : KeptAlbum → Type 0 = λ k. more k.row.id ≤ k.members.spare in
+    let Q : KeptAlbum → Type 0 = λ k. next k.row.id ≤ k.members.spare in
+    let id = was_id album members old new s in
+    let was : more album ≤ s.was.members.spare =
+    subst (λ (n : ℕ). more n ≤ s.was.members.spare) id (was_holds P album members old new s all) in
+    let now : next s.was.row.id ≤ members.spare = subst (λ (n : ℕ). next n ≤ members.spare) (sym id) (here was) in
+    subst (AllByRecursion Q) (sym s.new_is)
+    (set_all P Q album old s.place (record s.was { members = members }) s.rise s.at
+    (λ k apart holds. subst (λ (n : ℕ). n ≤ k.members.spare) (sym (others k.row.id apart)) holds) now all)
+
+-- ---- what is told of albums by their ids
+
+pub without_apart : (album id : ℕ) (of : ℕ → List (ℕ × Measured)) (other : ℕ) → other ≢ album → of other ≡ without_one album id of other
+without_apart album id of other apart = let test : (album == other) ≡ false = grind (arith, nat_tests, apart) in rw test refl
+
+pub without_here : (album id : ℕ) (of : ℕ → List (ℕ × Measured)) → without_one album id of album ≡ without_recording id (of album)
+without_here album id of = let test : (album == album) ≡ true = grind (arith, nat_tests) in rw test refl
+
+pub over_apart : (album id : ℕ) (m : Measured) (of : ℕ → List (ℕ × Measured)) (other : ℕ) → other ≢ album
+    → of other ≡ with_over (Some album) id m of other
+over_apart album id m of other apart = let test : (album == other) ≡ false = grind (arith, nat_tests, apart) in rw test refl
+
+pub over_here : (album id : ℕ) (m : Measured) (of : ℕ → List (ℕ × Measured))
+    → with_over (Some album) id m of album ≡ with_recording id m (without_recording id (of album))
+over_here album id m of = let test : (album == album) ≡ true = grind (arith, nat_tests) in rw test refl
+
+pub one_apart : (album : ℕ) (more : ℕ → ℕ) (other : ℕ) → other ≢ album → and_one (Some album) more other ≡ more other
+one_apart album more other apart = let test : (album == other) ≡ false = grind (arith, nat_tests, apart) in rw test refl
+
+pub one_here : (album : ℕ) (more : ℕ → ℕ) → and_one (Some album) more album ≡ 1 + more album
+one_here album more = let test : (album == album) ≡ true = grind (arith, nat_tests) in rw test refl
+
+pub one_in_here : (album : ℕ) → one_in (Some album) album ≡ 1
+one_in_here album = let test : (album == album) ≡ true = grind (arith, nat_tests) in rw test refl

@@ -2,8 +2,10 @@ pub mod Albums
 pub mod Answering
 pub mod Backed
 pub mod Changed
+pub mod Held
 pub mod Moved
 pub mod Placed
 pub mod Summed
+pub mod Sums
 pub mod Taken
 pub mod Unbroken
