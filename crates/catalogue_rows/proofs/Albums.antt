@@ -1,5 +1,6 @@
 -- One of ascending albums changes.
-use Rattle.std.proofs.Common.{◌≡◌, ◌≢◌, ◌<◌, ◌≤◌, ◌+◌, ◌==◌, ℕ, zero, suc, Bool, true, false, cond, List, [], ◌∷◌, length, map, nat_lt, Some, refl, sym, ap, ◌∙◌, subst, arith, All}
+use Rattle.std.proofs.Common.{◌≡◌, ◌≢◌, ◌<◌, ◌≤◌, ◌+◌, ◌==◌, ℕ, zero, suc, Bool, true, false, cond, List, [], ◌∷◌, length, map, nat_lt, Option, None, Some, is_some, refl, sym, ap, ◌∙◌, subst, arith, All, Contains}
+use Rattle.std.specs.Prelude.{IfNone}
 use Rattle.std.proofs.Math.ListN.{get_or, set}
 use Rattle.std.proofs.lemmas.Bool.Decides.{nat_tests}
 use Rattle.std.proofs.lemmas.List.Elements.{All-head, All-tail}
@@ -8,7 +9,8 @@ use Rattle.lib_base.specs.declared.files.Measured.{Measured}
 use Rattle.keeper_store.specs.declared.row_types.AlbumRow.{AlbumRow}
 use Rattle.keeper_store.specs.Puts.{Ascends, IsFirstOfNumber, album_less}
 use Rattle.keeper_store.proofs.Putting.{AllByRecursion-weaken, All-at}
-use Rattle.album_merge.specs.Members.{Kept, IsAlbumOf, with_recording, without_recording}
+use Rattle.album_merge.specs.Members.{Kept, IsAlbumOf, ids_of, recording_id, with_recording, without_recording}
+use Rattle.album_merge.proofs.Joining.{Contains-map, ids_joined}
 use Rattle.library_model.specs.RowRules.{has_album}
 use Rattle.catalogue_rows.specs.declared.kept.KeptAlbum.{KeptAlbum}
 use Rattle.catalogue_rows.specs.Holding.{album_row}
@@ -167,3 +169,60 @@ one_here album more = let test : (album == album) ≡ true = grind (arith, nat_t
 
 pub one_in_here : (album : ℕ) → one_in (Some album) album ≡ 1
 one_in_here album = let test : (album == album) ≡ true = grind (arith, nat_tests) in rw test refl
+
+-- ---- as calls tell it
+
+-- the album at the place that was found gets other members
+pub sets_of : (album : ℕ) (members : Kept) (old slice : List KeptAlbum) (place : ℕ) (was : KeptAlbum) → Ascends kept_album_less old
+    → slice ≡ old → IsFirstOfNumber kept_album_id album slice place → was ≡ get_or old place was
+    → Sets album members old (set old place (record was { members = members }))
+sets_of album members old slice place was rise same at is = record {
+  rise = rise;
+  place = place;
+  at = subst (λ (l : List KeptAlbum). IsFirstOfNumber kept_album_id album l place) same at;
+  was = was;
+  was_is = is;
+  new_is = refl;
+}
+
+-- what it stood for
+pub was_album : (of : ℕ → List (ℕ × Measured)) (album : ℕ) (members : Kept) (old new : List KeptAlbum) (s : Sets album members old new)
+    → AreMembersOf of old → IsAlbumOf s.was.members (of album)
+was_album of album members old new s all =
+    subst (λ (n : ℕ). IsAlbumOf s.was.members (of n)) (was_id album members old new s)
+    (was_holds (λ (k : KeptAlbum). IsAlbumOf k.members (of k.row.id)) album members old new s all)
+
+-- no album of the id was found
+pub none_there : (album : ℕ) (ks slice : List KeptAlbum) → slice ≡ ks → has_album album (map album_row ks) ≡ true
+    → All (λ (k : KeptAlbum). kept_album_id k ≢ album) slice → ⊥
+none_there album ks slice same has none =
+    not_missing album ks has (subst (λ (l : List KeptAlbum). All (λ (k : KeptAlbum). kept_album_id k ≢ album) l) same none)
+
+-- so each stands for what is told otherwise of this id alone
+pub members_elsewhere : (of next : ℕ → List (ℕ × Measured)) (album : ℕ) (ks slice : List KeptAlbum) → slice ≡ ks
+    → All (λ (k : KeptAlbum). kept_album_id k ≢ album) slice → ((other : ℕ) → other ≢ album → of other ≡ next other)
+    → AreMembersOf of ks → AreMembersOf next ks
+members_elsewhere of next album ks slice same none others all =
+    otherwise (λ (k : KeptAlbum). IsAlbumOf k.members (of k.row.id)) (λ (k : KeptAlbum). IsAlbumOf k.members (next k.row.id)) album ks
+    (λ k apart holds. subst (IsAlbumOf k.members) (others k.row.id apart) holds)
+    (subst (λ (l : List KeptAlbum). All (λ (k : KeptAlbum). kept_album_id k ≢ album) l) same none) all
+
+pub places_elsewhere : (more next : ℕ → ℕ) (album : ℕ) (ks slice : List KeptAlbum) → slice ≡ ks
+    → All (λ (k : KeptAlbum). kept_album_id k ≢ album) slice → ((other : ℕ) → other ≢ album → next other ≡ more other)
+    → HavePlaces more ks → HavePlaces next ks
+places_elsewhere more next album ks slice same none others all =
+    otherwise (λ (k : KeptAlbum). more k.row.id ≤ k.members.spare) (λ (k : KeptAlbum). next k.row.id ≤ k.members.spare) album ks
+    (λ k apart holds. subst (λ (n : ℕ). n ≤ k.members.spare) (sym (others k.row.id apart)) holds)
+    (subst (λ (l : List KeptAlbum). All (λ (k : KeptAlbum). kept_album_id k ≢ album) l) same none) all
+
+-- an answer that is there where it can't be missing
+pub some_unless : {A P : Type 0} (found : Option A) → IfNone found (¬ P) → P → is_some found ≡ true
+some_unless (Some x) none has = refl
+some_unless None none has = absurd (none has)
+
+-- a recording of an album has its id among the album's
+pub has_id : (album : Kept) (recordings : List (ℕ × Measured)) (id : ℕ) (m : Measured) → IsAlbumOf album recordings
+    → Contains recordings (id, m) → Contains (ids_of album) id
+has_id album recordings id m stands has =
+    subst (λ (l : List ℕ). Contains l id) (sym (ids_joined album.members recordings stands.members))
+    (Contains-map recording_id (id, m) recordings has)
