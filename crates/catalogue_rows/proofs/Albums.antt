@@ -82,11 +82,10 @@ not_missing album (k ∷ ks) has none =
     not_missing album ks (rw test at has) (All-tail (λ (x : KeptAlbum). kept_album_id x ≢ album) k ks none)
 
 -- Of ascending albums the one of an id gets other members.
-pub record Sets (album : ℕ) (members : Kept) (old new : List KeptAlbum) : Type 0 where
+pub record Sets (album : ℕ) (was : KeptAlbum) (members : Kept) (old new : List KeptAlbum) : Type 0 where
   pub rise : Ascends kept_album_less old
   pub place : ℕ
   pub at : IsFirstOfNumber kept_album_id album old place
-  pub was : KeptAlbum
   pub was_is : was ≡ get_or old place was
   pub new_is : new ≡ set old place (record was { members = members })
 
@@ -97,52 +96,52 @@ at_any (x ∷ ks) zero k d inside is = is
 at_any (x ∷ ks) (suc place) k d inside is = at_any ks place k d (omega (arith, inside)) is
 
 -- its id, and what holds of it since it holds of all
-pub was_id : (album : ℕ) (members : Kept) (old new : List KeptAlbum) (s : Sets album members old new) → s.was.row.id ≡ album
-was_id album members old new s = ap kept_album_id s.was_is ∙ s.at.same s.was
+pub was_id : (album : ℕ) (was : KeptAlbum) (members : Kept) (old new : List KeptAlbum) (s : Sets album was members old new) → was.row.id ≡ album
+was_id album was members old new s = ap kept_album_id s.was_is ∙ s.at.same was
 
-pub was_holds : (P : KeptAlbum → Type 0) (album : ℕ) (members : Kept) (old new : List KeptAlbum) (s : Sets album members old new)
-    → AllByRecursion P old → P s.was
-was_holds P album members old new s all = subst P (sym s.was_is) (All-at P old all s.place s.was s.at.inside)
+pub was_holds : (P : KeptAlbum → Type 0) (album : ℕ) (was : KeptAlbum) (members : Kept) (old new : List KeptAlbum) (s : Sets album was members old new)
+    → AllByRecursion P old → P was
+was_holds P album was members old new s all = subst P (sym s.was_is) (All-at P old all s.place was s.at.inside)
 
 -- the rows are as they were, and ascend
-pub sets_rows : (album : ℕ) (members : Kept) (old new : List KeptAlbum) → Sets album members old new → map album_row new ≡ map album_row old
-sets_rows album members old new s =
-    let kept : KeptAlbum = record s.was { members = members } in
-    ap (map album_row) s.new_is ∙ rows_set old s.place kept (ap album_row (at_any old s.place s.was kept s.at.inside s.was_is))
+pub sets_rows : (album : ℕ) (was : KeptAlbum) (members : Kept) (old new : List KeptAlbum) → Sets album was members old new → map album_row new ≡ map album_row old
+sets_rows album was members old new s =
+    let kept : KeptAlbum = record was { members = members } in
+    ap (map album_row) s.new_is ∙ rows_set old s.place kept (ap album_row (at_any old s.place was kept s.at.inside s.was_is))
 
-pub sets_ascend : (album : ℕ) (members : Kept) (old new : List KeptAlbum) → Sets album members old new → Ascends kept_album_less new
-sets_ascend album members old new s =
+pub sets_ascend : (album : ℕ) (was : KeptAlbum) (members : Kept) (old new : List KeptAlbum) → Sets album was members old new → Ascends kept_album_less new
+sets_ascend album was members old new s =
     Ascends-parts album_less album_row new
-    (subst (Ascends album_less) (sym (sets_rows album members old new s)) (ascend_rows old s.rise))
+    (subst (Ascends album_less) (sym (sets_rows album was members old new s)) (ascend_rows old s.rise))
 
 -- what the albums stand for, where the others stand for the same
-pub sets_members : (of next : ℕ → List (ℕ × Measured)) (album : ℕ) (members : Kept) (old new : List KeptAlbum)
-    (s : Sets album members old new) → ((other : ℕ) → other ≢ album → of other ≡ next other)
-    → (IsAlbumOf s.was.members (of album) → IsAlbumOf members (next album)) → AreMembersOf of old → AreMembersOf next new
-sets_members of next album members old new s others here all =
+pub sets_members : (of next : ℕ → List (ℕ × Measured)) (album : ℕ) (was : KeptAlbum) (members : Kept) (old new : List KeptAlbum)
+    (s : Sets album was members old new) → ((other : ℕ) → other ≢ album → of other ≡ next other)
+    → (IsAlbumOf was.members (of album) → IsAlbumOf members (next album)) → AreMembersOf of old → AreMembersOf next new
+sets_members of next album was members old new s others here all =
     let P : KeptAlbum → Type 0 = λ k. IsAlbumOf k.members (of k.row.id) in
     let Q : KeptAlbum → Type 0 = λ k. IsAlbumOf k.members (next k.row.id) in
-    let id = was_id album members old new s in
-    let was : IsAlbumOf s.was.members (of album) =
-    subst (λ (n : ℕ). IsAlbumOf s.was.members (of n)) id (was_holds P album members old new s all) in
-    let now : IsAlbumOf members (next s.was.row.id) = subst (λ (n : ℕ). IsAlbumOf members (next n)) (sym id) (here was) in
+    let id = was_id album was members old new s in
+    let stood : IsAlbumOf was.members (of album) =
+    subst (λ (n : ℕ). IsAlbumOf was.members (of n)) id (was_holds P album was members old new s all) in
+    let now : IsAlbumOf members (next was.row.id) = subst (λ (n : ℕ). IsAlbumOf members (next n)) (sym id) (here stood) in
     subst (AllByRecursion Q) (sym s.new_is)
-    (set_all P Q album old s.place (record s.was { members = members }) s.rise s.at
+    (set_all P Q album old s.place (record was { members = members }) s.rise s.at
     (λ k apart holds. subst (IsAlbumOf k.members) (others k.row.id apart) holds) now all)
 
 -- their places, where the others have the same
-pub sets_places : (more next : ℕ → ℕ) (album : ℕ) (members : Kept) (old new : List KeptAlbum) (s : Sets album members old new)
-    → ((other : ℕ) → other ≢ album → next other ≡ more other) → (more album ≤ s.was.members.spare → next album ≤ members.spare)
+pub sets_places : (more next : ℕ → ℕ) (album : ℕ) (was : KeptAlbum) (members : Kept) (old new : List KeptAlbum) (s : Sets album was members old new)
+    → ((other : ℕ) → other ≢ album → next other ≡ more other) → (more album ≤ was.members.spare → next album ≤ members.spare)
     → HavePlaces more old → HavePlaces next new
-sets_places more next album members old new s others here all =
+sets_places more next album was members old new s others here all =
     let P : KeptAlbum → Type 0 = λ k. more k.row.id ≤ k.members.spare in
     let Q : KeptAlbum → Type 0 = λ k. next k.row.id ≤ k.members.spare in
-    let id = was_id album members old new s in
-    let was : more album ≤ s.was.members.spare =
-    subst (λ (n : ℕ). more n ≤ s.was.members.spare) id (was_holds P album members old new s all) in
-    let now : next s.was.row.id ≤ members.spare = subst (λ (n : ℕ). next n ≤ members.spare) (sym id) (here was) in
+    let id = was_id album was members old new s in
+    let had : more album ≤ was.members.spare =
+    subst (λ (n : ℕ). more n ≤ was.members.spare) id (was_holds P album was members old new s all) in
+    let now : next was.row.id ≤ members.spare = subst (λ (n : ℕ). next n ≤ members.spare) (sym id) (here had) in
     subst (AllByRecursion Q) (sym s.new_is)
-    (set_all P Q album old s.place (record s.was { members = members }) s.rise s.at
+    (set_all P Q album old s.place (record was { members = members }) s.rise s.at
     (λ k apart holds. subst (λ (n : ℕ). n ≤ k.members.spare) (sym (others k.row.id apart)) holds) now all)
 
 -- ---- what is told of albums by their ids
@@ -162,7 +161,7 @@ pub over_here : (album id : ℕ) (m : Measured) (of : ℕ → List (ℕ × Measu
 over_here album id m of = let test : (album == album) ≡ true = grind (arith, nat_tests) in rw test refl
 
 pub one_apart : (album : ℕ) (more : ℕ → ℕ) (other : ℕ) → other ≢ album → and_one (Some album) more other ≡ more other
-one_apart album more other apart = let test : (album == other) ≡ false = grind (arith, nat_tests, apart) in rw test refl
+one_apart album more other apart = let test : (album == other) ≡ false = grind (arith, nat_tests, apart) in rw test (omega arith)
 
 pub one_here : (album : ℕ) (more : ℕ → ℕ) → and_one (Some album) more album ≡ 1 + more album
 one_here album more = let test : (album == album) ≡ true = grind (arith, nat_tests) in rw test refl
@@ -175,22 +174,21 @@ one_in_here album = let test : (album == album) ≡ true = grind (arith, nat_tes
 -- the album at the place that was found gets other members
 pub sets_of : (album : ℕ) (members : Kept) (old slice : List KeptAlbum) (place : ℕ) (was : KeptAlbum) → Ascends kept_album_less old
     → slice ≡ old → IsFirstOfNumber kept_album_id album slice place → was ≡ get_or old place was
-    → Sets album members old (set old place (record was { members = members }))
+    → Sets album was members old (set old place (record was { members = members }))
 sets_of album members old slice place was rise same at is = record {
   rise = rise;
   place = place;
   at = subst (λ (l : List KeptAlbum). IsFirstOfNumber kept_album_id album l place) same at;
-  was = was;
   was_is = is;
   new_is = refl;
 }
 
 -- what it stood for
-pub was_album : (of : ℕ → List (ℕ × Measured)) (album : ℕ) (members : Kept) (old new : List KeptAlbum) (s : Sets album members old new)
-    → AreMembersOf of old → IsAlbumOf s.was.members (of album)
-was_album of album members old new s all =
-    subst (λ (n : ℕ). IsAlbumOf s.was.members (of n)) (was_id album members old new s)
-    (was_holds (λ (k : KeptAlbum). IsAlbumOf k.members (of k.row.id)) album members old new s all)
+pub was_album : (of : ℕ → List (ℕ × Measured)) (album : ℕ) (was : KeptAlbum) (members : Kept) (old new : List KeptAlbum) (s : Sets album was members old new)
+    → AreMembersOf of old → IsAlbumOf was.members (of album)
+was_album of album was members old new s all =
+    subst (λ (n : ℕ). IsAlbumOf was.members (of n)) (was_id album was members old new s)
+    (was_holds (λ (k : KeptAlbum). IsAlbumOf k.members (of k.row.id)) album was members old new s all)
 
 -- no album of the id was found
 pub none_there : (album : ℕ) (ks slice : List KeptAlbum) → slice ≡ ks → has_album album (map album_row ks) ≡ true

@@ -8,10 +8,10 @@ use Rattle.keeper_store.specs.declared.contents.Tables.{Tables}
 use Rattle.keeper_store.specs.declared.row_types.AlbumRow.{AlbumRow}
 use Rattle.keeper_store.specs.declared.row_types.RecordingRow.{RecordingRow}
 use Rattle.keeper_store.specs.declared.row_types.SegmentRow.{SegmentRow}
-use Rattle.keeper_store.specs.declared.contents.Change.TheVariants.{PutAlbum, PutSegments, DropAlbum}
+use Rattle.keeper_store.specs.declared.contents.Change.TheVariants.{PutAlbum, PutSegments, DropAlbum, DropSegments}
 use Rattle.keeper_store.specs.Changes.{changed}
 use Rattle.keeper_store.specs.EnergyBytes.{energies_in}
-use Rattle.keeper_store.specs.Puts.{put, without, album_less, album_id, segments_less}
+use Rattle.keeper_store.specs.Puts.{put, without, album_less, album_id, segments_less, segments_take}
 use Rattle.keeper_store.proofs.Putting.{map-put, AllByRecursion-put, AllByRecursion-weaken}
 use Rattle.keeper_store.proofs.Dropping.{map-without, AllByRecursion-without}
 use Rattle.album_merge.specs.Members.{IsAlbumOf, Kept}
@@ -142,6 +142,20 @@ energies_put take row (s ∷ rows) apart =
         let other : (s.take == take) ≡ false = grind (arith, nat_tests, is, also, apart) in
         rw (test, other) refl
 
+-- they stay where another take's go
+energies_without : (take gone : ℕ) (rows : List SegmentRow) → take ≢ gone
+    → energies_of_take take (without segments_take gone rows) ≡ energies_of_take take rows
+energies_without take gone [] apart = refl
+energies_without take gone (s ∷ rows) apart = cases (energies_without take gone rows apart) (s.take == gone) refl
+  where
+    cases : energies_of_take take (without segments_take gone rows) ≡ energies_of_take take rows → (here : Bool) → (s.take == gone) ≡ here
+        → energies_of_take take (cond (not here) (s ∷ without segments_take gone rows) (without segments_take gone rows))
+        ≡ energies_of_take take (s ∷ rows)
+    cases rest true is =
+        let other : (s.take == take) ≡ false = grind (arith, nat_tests, is, apart) in
+        rw other rest
+    cases rest false is = ap (λ (es : List ℕ). cond (s.take == take) (energies_in s.energies) es) rest
+
 -- rows hold what changes no recording's measure
 Holds-measured : (rows : CatalogueRows) (t : Tables) (segments : List SegmentRow) → Holds rows t
     → AllByRecursion (λ (r : RecordingRow). measured_in (record t { segments = segments }) r ≡ measured_in t r) t.recordings
@@ -180,21 +194,38 @@ Holds-measured rows t segments holds same = record {
     besides (k ∷ ks) all its =
         (subst (λ (m : Measured). HasOwn k.row.album k.tally m) (sym all.0) its.0, besides ks all.1 its.1)
 
--- rows hold the tables with the segments of a take that no recording names
+measured_with : RecordingRow → List ℕ → Measured
+measured_with r es = record {
+  channels = r.channels;
+  depth = r.depth;
+  frames = r.summary.frames;
+  energies = es;
+  peak = r.summary.peak;
+}
+
+-- the same is measured of a recording of another take once segments are put, or dropped
+pub measured_put : (t : Tables) (row : SegmentRow) (r : RecordingRow) → r.take ≢ row.take
+    → measured_in (changed (PutSegments row) t) r ≡ measured_in t r
+measured_put t row r apart = ap (measured_with r) (energies_put r.take row t.segments (λ same. apart (sym same)))
+
+pub measured_drop : (t : Tables) (take : ℕ) (r : RecordingRow) → r.take ≢ take
+    → measured_in (changed (DropSegments take) t) r ≡ measured_in t r
+measured_drop t take r apart = ap (measured_with r) (energies_without r.take take t.segments apart)
+
+-- Rows hold the tables with the segments of a take that no recording names.
 pub Holds-put_segments : (rows : CatalogueRows) (t : Tables) (row : SegmentRow) → Holds rows t → IsUnnamed row.take t
     → Holds rows (changed (PutSegments row) t)
 Holds-put_segments rows t row holds unnamed =
     Holds-measured rows t (put segments_less row t.segments) holds
     (AllByRecursion-weaken (λ (r : RecordingRow). r.take ≢ row.take)
     (λ (r : RecordingRow). measured_in (record t { segments = put segments_less row t.segments }) r ≡ measured_in t r)
-    (λ r apart. ap (λ (es : List ℕ). measured_with r es) (energies_put r.take row t.segments (λ same. apart (sym same))))
-    t.recordings unnamed)
-  where
-    measured_with : RecordingRow → List ℕ → Measured
-    measured_with r es = record {
-      channels = r.channels;
-      depth = r.depth;
-      frames = r.summary.frames;
-      energies = es;
-      peak = r.summary.peak;
-    }
+    (measured_put t row) t.recordings unnamed)
+
+-- Or without them.
+pub Holds-drop_segments : (rows : CatalogueRows) (t : Tables) (take : ℕ) → Holds rows t → IsUnnamed take t
+    → Holds rows (changed (DropSegments take) t)
+Holds-drop_segments rows t take holds unnamed =
+    Holds-measured rows t (without segments_take take t.segments) holds
+    (AllByRecursion-weaken (λ (r : RecordingRow). r.take ≢ take)
+    (λ (r : RecordingRow). measured_in (record t { segments = without segments_take take t.segments }) r ≡ measured_in t r)
+    (measured_drop t take) t.recordings unnamed)

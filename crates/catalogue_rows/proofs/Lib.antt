@@ -2,7 +2,9 @@ pub mod Albums
 pub mod Answering
 pub mod Backed
 pub mod Changed
+pub mod Counts
 pub mod Held
+pub mod Laws
 pub mod Moved
 pub mod Placed
 pub mod Summed

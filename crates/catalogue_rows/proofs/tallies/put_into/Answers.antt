@@ -9,20 +9,20 @@ pub returns-in-Some-clause-kept : goal.returns-in-Some-clause-kept
 returns-in-Some-clause-kept c =
     let s = sets_of c.args.album c.put_over.new.album c.args.albums.now.items c.as_slice.result.now c.in-Some.place c.index_mut.result.now
     c.requires.ascend c.as_slice.ensures.value c.in-Some.ensures.there c.index_mut.ensures.value in
-    record { rows = sets_rows c.args.album c.put_over.new.album c.args.albums.now.items _ s; len = refl; capacity = refl }
+    record { rows = sets_rows c.args.album c.index_mut.result.now c.put_over.new.album c.args.albums.now.items _ s; len = refl; capacity = refl }
 
 pub returns-in-Some-clause-ascend : goal.returns-in-Some-clause-ascend
 returns-in-Some-clause-ascend c =
     let s = sets_of c.args.album c.put_over.new.album c.args.albums.now.items c.as_slice.result.now c.in-Some.place c.index_mut.result.now
     c.requires.ascend c.as_slice.ensures.value c.in-Some.ensures.there c.index_mut.ensures.value in
-    sets_ascend c.args.album c.put_over.new.album c.args.albums.now.items _ s
+    sets_ascend c.args.album c.index_mut.result.now c.put_over.new.album c.args.albums.now.items _ s
 
 pub returns-in-Some-clause-members : goal.returns-in-Some-clause-members
 returns-in-Some-clause-members c of measured all stands few =
     let album = c.args.album in
     let s = sets_of album c.put_over.new.album c.args.albums.now.items c.as_slice.result.now c.in-Some.place c.index_mut.result.now
     c.requires.ascend c.as_slice.ensures.value c.in-Some.ensures.there c.index_mut.ensures.value in
-    sets_members of (with_over (Some album) c.args.id measured of) album c.put_over.new.album c.args.albums.now.items _ s
+    sets_members of (with_over (Some album) c.args.id measured of) album c.index_mut.result.now c.put_over.new.album c.args.albums.now.items _ s
     (over_apart album c.args.id measured of)
     (λ was. subst (IsAlbumOf c.put_over.new.album) (sym (over_here album c.args.id measured of))
     (c.put_over.ensures.album (of album) measured was stands few)) all
@@ -34,7 +34,7 @@ returns-in-Some-clause-places c more all =
     c.requires.ascend c.as_slice.ensures.value c.in-Some.ensures.there c.index_mut.ensures.value in
     let here = one_here album more in
     let spare = c.put_over.ensures.spare in
-    sets_places (and_one (Some album) more) more album c.put_over.new.album c.args.albums.now.items _ s
+    sets_places (and_one (Some album) more) more album c.index_mut.result.now c.put_over.new.album c.args.albums.now.items _ s
     (λ other apart. sym (one_apart album more other apart)) (λ was. omega (arith, here, spare, was)) all
 
 pub returns-in_default-clause-members : goal.returns-in_default-clause-members

@@ -10,10 +10,10 @@ pub returns-clause-kept : goal.returns-clause-kept
 returns-clause-kept g c =
     let s = sets_of c.args.album c.try_without.new.album c.args.albums.now.items c.as_slice.result.now c.in-Some.place c.index_mut.result.now
     c.requires c.as_slice.ensures.value c.in-Some.ensures.there c.index_mut.ensures.value in
-    record { rows = sets_rows c.args.album c.try_without.new.album c.args.albums.now.items _ s; len = refl; capacity = refl }
+    record { rows = sets_rows c.args.album c.index_mut.result.now c.try_without.new.album c.args.albums.now.items _ s; len = refl; capacity = refl }
 
 pub returns-clause-ascend : goal.returns-clause-ascend
 returns-clause-ascend g c =
     let s = sets_of c.args.album c.try_without.new.album c.args.albums.now.items c.as_slice.result.now c.in-Some.place c.index_mut.result.now
     c.requires c.as_slice.ensures.value c.in-Some.ensures.there c.index_mut.ensures.value in
-    sets_ascend c.args.album c.try_without.new.album c.args.albums.now.items _ s
+    sets_ascend c.args.album c.index_mut.result.now c.try_without.new.album c.args.albums.now.items _ s
