@@ -1,14 +1,14 @@
 -- One of ascending albums changes.
 use Rattle.std.proofs.Common.{◌≡◌, ◌≢◌, ◌<◌, ◌≤◌, ◌+◌, ◌==◌, ℕ, zero, suc, Bool, true, false, cond, List, [], ◌∷◌, length, map, nat_lt, Option, None, Some, is_some, refl, sym, ap, ◌∙◌, subst, arith, All, Contains}
-use Rattle.std.specs.Prelude.{IfNone}
+use Rattle.std.specs.Prelude.{IfNone, IfSome, IfOk, OnOk, Result, Ok, Err}
 use Rattle.std.proofs.Math.ListN.{get_or, set}
 use Rattle.std.proofs.lemmas.Bool.Decides.{nat_tests}
 use Rattle.std.proofs.lemmas.List.Elements.{All-head, All-tail}
 use Rattle.std.specs.List.{AllByRecursion}
 use Rattle.lib_base.specs.declared.files.Measured.{Measured}
 use Rattle.keeper_store.specs.declared.row_types.AlbumRow.{AlbumRow}
-use Rattle.keeper_store.specs.Puts.{Ascends, IsFirstOfNumber, album_less}
-use Rattle.keeper_store.proofs.Putting.{AllByRecursion-weaken, All-at}
+use Rattle.keeper_store.specs.Puts.{put, Ascends, IsFirstOfNumber, album_less}
+use Rattle.keeper_store.proofs.Putting.{AllByRecursion-put, AllByRecursion-weaken, All-at}
 use Rattle.album_merge.specs.Members.{Kept, IsAlbumOf, ids_of, recording_id, with_recording, without_recording}
 use Rattle.album_merge.proofs.Joining.{Contains-map, ids_joined}
 use Rattle.library_model.specs.RowRules.{has_album}
@@ -224,3 +224,53 @@ pub has_id : (album : Kept) (recordings : List (ℕ × Measured)) (id : ℕ) (m 
 has_id album recordings id m stands has =
     subst (λ (l : List ℕ). Contains l id) (sym (ids_joined album.members recordings stands.members))
     (Contains-map recording_id (id, m) recordings has)
+
+-- no place is lost where a recording is taken out, or nothing changes
+pub spare_stays : {A : Type 0} (taken : Option A) (old new : Kept) → IfSome taken (λ _. new.spare ≡ old.spare + 1) → IfNone taken (new ≡ old)
+    → old.spare ≤ new.spare
+spare_stays None old new more same = omega (arith, ap (λ (k : Kept). k.spare) same)
+spare_stays (Some x) old new more same = omega (arith, more)
+
+-- places beside one more are places
+pub places_beside : (album : Option ℕ) (more : ℕ → ℕ) (ks : List KeptAlbum) → HavePlaces (and_one album more) ks → HavePlaces more ks
+places_beside album more ks all =
+    AllByRecursion-weaken (λ (k : KeptAlbum). and_one album more k.row.id ≤ k.members.spare) (λ (k : KeptAlbum). more k.row.id ≤ k.members.spare)
+    (λ k has. omega (arith, has)) ks all
+
+-- one place, where no more are told
+pub place_alone : (album : Option ℕ) (ks : List KeptAlbum) → HavePlaces (and_one album (λ _. 0)) ks → HavePlaces (one_in album) ks
+place_alone album ks all =
+    AllByRecursion-weaken (λ (k : KeptAlbum). and_one album (λ _. 0) k.row.id ≤ k.members.spare) (λ (k : KeptAlbum). one_in album k.row.id ≤ k.members.spare)
+    (λ k has. omega (arith, has)) ks all
+
+-- no album, no more place
+pub places_none : (more : ℕ → ℕ) (ks : List KeptAlbum) → HavePlaces more ks → HavePlaces (and_one None more) ks
+places_none more ks all =
+    AllByRecursion-weaken (λ (k : KeptAlbum). more k.row.id ≤ k.members.spare) (λ (k : KeptAlbum). and_one None more k.row.id ≤ k.members.spare)
+    (λ k has. omega (arith, has)) ks all
+
+-- each album has no place more than it has
+pub no_places : (ks : List KeptAlbum) → HavePlaces (λ _. 0) ks
+no_places [] = tt
+no_places (k ∷ ks) = (omega arith, no_places ks)
+
+-- the places of albums with one put among them
+pub put_places : (more : ℕ → ℕ) (ks next : List KeptAlbum) (row : AlbumRow) (members : Kept)
+    → next ≡ put kept_album_less (record { row = row; members = members }) ks → more row.id ≤ members.spare → HavePlaces more ks
+    → HavePlaces more next
+put_places more ks next row members is here all =
+    subst (HavePlaces more) (sym is)
+    (AllByRecursion-put (λ (k : KeptAlbum). more k.row.id ≤ k.members.spare) kept_album_less (record { row = row; members = members }) ks here all)
+
+-- a place in one album
+pub place_made : (album : ℕ) (was : KeptAlbum) (members : Kept) (old new : List KeptAlbum) → Sets album was members old new → 1 ≤ members.spare
+    → HavePlaces (one_in (Some album)) new
+place_made album was members old new s made =
+    sets_places (λ _. 0) (one_in (Some album)) album was members old new s
+    (λ other apart. let test : (album == other) ≡ false = grind (arith, nat_tests, apart) in rw test refl)
+    (λ had. let one = one_in_here album in omega (arith, one, made)) (no_places old)
+
+-- what follows where a call succeeds
+pub ok_then : {T E P Q : Type 0} (r : Result T E) → IfOk r (λ _. P) → (P → Q) → OnOk r Q
+ok_then (Ok x) held follows = follows held
+ok_then (Err e) held follows = tt

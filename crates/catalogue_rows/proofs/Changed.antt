@@ -11,8 +11,9 @@ use Rattle.keeper_store.specs.declared.row_types.SegmentRow.{SegmentRow}
 use Rattle.keeper_store.specs.declared.contents.Change.TheVariants.{PutAlbum, PutSegments, DropAlbum, DropSegments}
 use Rattle.keeper_store.specs.Changes.{changed}
 use Rattle.keeper_store.specs.EnergyBytes.{energies_in}
-use Rattle.keeper_store.specs.Puts.{put, without, album_less, album_id, segments_less, segments_take}
-use Rattle.keeper_store.proofs.Putting.{map-put, AllByRecursion-put, AllByRecursion-weaken}
+use Rattle.keeper_store.specs.Puts.{put, without, album_less, album_id, segments_less, segments_take, Ascends, IsFirstOfNumber}
+use Rattle.std.proofs.Math.ListN.{get_or, set}
+use Rattle.keeper_store.proofs.Putting.{map-put, AllByRecursion-put, AllByRecursion-weaken, All-at, Ascends-put}
 use Rattle.keeper_store.proofs.Dropping.{map-without, AllByRecursion-without}
 use Rattle.album_merge.specs.Members.{IsAlbumOf, Kept}
 use Rattle.album_merge.specs.Tallies.{Tallied, StandsForMeasured}
@@ -20,10 +21,11 @@ use Rattle.library_model.specs.RowRules.{measured_in, members_in, is_in_album, e
 use Rattle.catalogue_rows.specs.declared.kept.KeptAlbum.{KeptAlbum}
 use Rattle.catalogue_rows.specs.declared.kept.KeptRecording.{KeptRecording}
 use Rattle.catalogue_rows.specs.declared.rows.CatalogueRows.{CatalogueRows}
-use Rattle.catalogue_rows.specs.KeptOrders.{kept_album_id, kept_album_less, kept_recording_id}
+use Rattle.catalogue_rows.specs.KeptOrders.{kept_album_id, kept_album_less, kept_albums_in_order, kept_recording_id}
 use Rattle.kept_replies.specs.Holding as replies
 use Rattle.kept_replies.specs.declared.keeping.KeptReplies.{KeptReplies}
 use Rattle.catalogue_rows.specs.Making.{HasNoMembers, IsUnnamed}
+use Rattle.catalogue_rows.proofs.Moved.{set_is_put}
 use Rattle.catalogue_rows.specs.Holding.{HasOwn, Holds, IsBeside, IsInAlbum, album_of, album_row, recording_row, numbers_of}
 
 -- a row found among parts
@@ -79,7 +81,7 @@ Holds-drop_album rows next t id holds left numbers recordings same_replies = rec
 }
 
 -- what holds of all rows holds of the one that is found
-found_holds : {K : Type 0} (P : K → Type 0) (test : K → Bool) (k : K) (ks : List K) → Some k ≡ find test ks → AllByRecursion P ks
+pub found_holds : {K : Type 0} (P : K → Type 0) (test : K → Bool) (k : K) (ks : List K) → Some k ≡ find test ks → AllByRecursion P ks
     → P k × (test k ≡ true)
 found_holds P test k [] found all = (cc found, cc found)
 found_holds {K} P test k (x ∷ ks) found all = cases (λ more. found_holds P test k ks more all.1) (test x) refl found
@@ -194,7 +196,7 @@ Holds-measured rows t segments holds same = record {
     besides (k ∷ ks) all its =
         (subst (λ (m : Measured). HasOwn k.row.album k.tally m) (sym all.0) its.0, besides ks all.1 its.1)
 
-measured_with : RecordingRow → List ℕ → Measured
+abbrev measured_with : RecordingRow → List ℕ → Measured
 measured_with r es = record {
   channels = r.channels;
   depth = r.depth;
@@ -229,3 +231,57 @@ Holds-drop_segments rows t take holds unnamed =
     (AllByRecursion-weaken (λ (r : RecordingRow). r.take ≢ take)
     (λ (r : RecordingRow). measured_in (record t { segments = without segments_take take t.segments }) r ≡ measured_in t r)
     (measured_drop t take) t.recordings unnamed)
+
+-- Rows hold the tables with their albums' objects standing for the same.
+pub Holds-albums : (rows next : CatalogueRows) (t : Tables) → Holds rows t → map album_row next.albums.items ≡ map album_row rows.albums.items
+    → AllByRecursion (IsInAlbum t) next.albums.items → next.recordings.items ≡ rows.recordings.items → next.replies ≡ rows.replies
+    → numbers_of next ≡ numbers_of rows → Holds next t
+Holds-albums rows next t holds same members recordings same_replies numbers = record {
+  numbers = numbers ∙ holds.numbers;
+  albums = same ∙ holds.albums;
+  recordings = ap (map recording_row) recordings ∙ holds.recordings;
+  replies = subst (λ (kept : KeptReplies). replies.Holds kept t.replies) (sym same_replies) holds.replies;
+  in_albums = members;
+  beside = subst (λ (l : List KeptRecording). AllByRecursion (IsBeside t) l) (sym recordings) holds.beside;
+}
+
+-- Or with another row over that of an album.
+pub Holds-put_album_over : (rows next : CatalogueRows) (t : Tables) (row : AlbumRow) (place : ℕ) (was : KeptAlbum) → Holds rows t
+    → IsFirstOfNumber kept_album_id row.id rows.albums.items place → was ≡ get_or rows.albums.items place was
+    → next.albums.items ≡ set rows.albums.items place (record { row = row; members = was.members })
+    → numbers_of next ≡ numbers_of rows → next.recordings.items ≡ rows.recordings.items → next.replies ≡ rows.replies
+    → Holds next (changed (PutAlbum row) t)
+Holds-put_album_over rows next t row place was holds at is set_is numbers recordings same_replies = record {
+  numbers = numbers ∙ holds.numbers;
+  albums = ap (map album_row) put_is
+      ∙ map-put kept_album_less album_less album_row (λ a b. refl) kept rows.albums.items
+      ∙ ap (put album_less row) holds.albums;
+  recordings = ap (map recording_row) recordings ∙ holds.recordings;
+  replies = subst (λ (all : KeptReplies). replies.Holds all t.replies) (sym same_replies) holds.replies;
+  in_albums = subst (λ (l : List KeptAlbum). AllByRecursion (IsInAlbum t) l) (sym put_is)
+      (AllByRecursion-put (IsInAlbum t) kept_album_less kept rows.albums.items its holds.in_albums);
+  beside = subst (λ (l : List KeptRecording). AllByRecursion (IsBeside t) l) (sym recordings) holds.beside;
+}
+  where
+    kept : KeptAlbum
+    kept = record { row = row; members = was.members }
+
+    put_is : next.albums.items ≡ put kept_album_less kept rows.albums.items
+    put_is = set_is ∙ set_is_put kept_album_less kept_album_id (λ a b. refl) kept row.id rows.albums.items place rows.albums_ascend at refl
+
+    same : was.row.id ≡ row.id
+    same = ap kept_album_id is ∙ at.same was
+
+    stood : IsInAlbum t was
+    stood = subst (IsInAlbum t) (sym is) (All-at (IsInAlbum t) rows.albums.items holds.in_albums place was at.inside)
+
+    its : IsInAlbum t kept
+    its = subst (λ (n : ℕ). IsAlbumOf was.members (album_of t t.recordings n)) same stood
+
+-- albums ascend with one put over another
+pub albums_rise_set : (ks : List KeptAlbum) (n place : ℕ) (kept : KeptAlbum) → Ascends kept_album_less ks
+    → IsFirstOfNumber kept_album_id n ks place → kept.row.id ≡ n → Ascends kept_album_less (set ks place kept)
+albums_rise_set ks n place kept rise at same =
+    subst (Ascends kept_album_less)
+    (sym (set_is_put kept_album_less kept_album_id (λ a b. refl) kept n ks place rise at same))
+    (Ascends-put kept_album_less kept_albums_in_order kept ks rise)

@@ -1,5 +1,5 @@
 -- How many recordings albums have, and which.
-use Rattle.std.proofs.Common.{◌≡◌, ◌≤◌, ◌==◌, ℕ, Bool, true, false, not, cond, List, [], ◌∷◌, length, map, nat_le, nat_lt, Option, None, Some, refl, sym, ap, ◌∙◌, arith}
+use Rattle.std.proofs.Common.{◌≡◌, ◌==◌, ◌||◌, ℕ, Bool, true, false, not, cond, List, [], ◌∷◌, length, map, nat_le, nat_lt, Option, None, Some, refl, sym, ap, ◌∙◌, arith}
 use Rattle.std.specs.List.{find}
 use Rattle.std.proofs.lemmas.Bool.Decides.{nat_tests}
 use Rattle.keeper_store.specs.declared.contents.Tables.{Tables}
@@ -40,6 +40,6 @@ missing_not_there id [] none has = cc has
 missing_not_there id (a ∷ albums) none has = cases (λ gone here. missing_not_there id albums gone here) (a.id == id) none has
   where
     cases : (find (λ (x : AlbumRow). x.id == id) albums ≡ None → has_album id albums ≡ true → ⊥) → (this : Bool)
-        → cond this (Some a) (find (λ (x : AlbumRow). x.id == id) albums) ≡ None → cond this true (has_album id albums) ≡ true → ⊥
+        → cond this (Some a) (find (λ (x : AlbumRow). x.id == id) albums) ≡ None → (this || has_album id albums) ≡ true → ⊥
     cases rest true gone here = cc gone
     cases rest false gone here = rest gone here

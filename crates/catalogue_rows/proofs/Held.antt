@@ -2,7 +2,7 @@
 use Rattle.std.proofs.Common.{◌≡◌, ◌≢◌, ◌<◌, ◌≤◌, ◌==◌, ℕ, zero, suc, Bool, true, false, not, cond, List, [], ◌∷◌, length, map, nat_lt, Option, None, Some, is_some, refl, sym, ap, ◌∙◌, subst, arith, Contains, All}
 use Rattle.std.specs.Prelude.{IfSome}
 use Rattle.std.specs.List.{AllByRecursion, find}
-use Rattle.std.specs.Option.{option_map}
+use Rattle.std.specs.Option.{option_map, option_or}
 use Rattle.std.proofs.Math.ListN.{get_or, set}
 use Rattle.std.proofs.lemmas.Bool.Decides.{nat_tests}
 use Rattle.lib_base.specs.declared.files.Measured.{Measured}
@@ -13,24 +13,26 @@ use Rattle.keeper_store.specs.declared.row_types.AlbumRow.{AlbumRow}
 use Rattle.keeper_store.specs.declared.row_types.RecordingRow.{RecordingRow}
 use Rattle.keeper_store.specs.Changes.{changed, next_numbers}
 use Rattle.keeper_store.specs.Puts.{put, without, Ascends, IsFirstOfNumber, recording_id, recording_less}
-use Rattle.keeper_store.proofs.Putting.{map-put, AllByRecursion-put, AllByRecursion-weaken, All-at}
+use Rattle.keeper_store.proofs.Putting.{map-put, AllByRecursion-put, AllByRecursion-weaken, All-at, Ascends-put}
 use Rattle.keeper_store.proofs.Dropping.{map-without, AllByRecursion-without}
-use Rattle.keeper_store.proofs.Finding.{found_first}
+use Rattle.keeper_store.proofs.Finding.{found_first, not_found}
 use Rattle.kept_replies.specs.Holding as replies
 use Rattle.kept_replies.specs.declared.keeping.KeptReplies.{KeptReplies}
 use Rattle.album_merge.specs.Members.{IsAlbumOf, without_recording}
 use Rattle.album_merge.specs.Tallies.{Tallied, StandsForMeasured}
-use Rattle.library_model.specs.RowRules.{measured_in, is_in_album}
+use Rattle.library_model.specs.RowRules.{album_is_there, measured_in, members_in, is_in_album}
 use Rattle.catalogue_rows.specs.declared.kept.KeptAlbum.{KeptAlbum}
 use Rattle.catalogue_rows.specs.declared.kept.KeptRecording.{KeptRecording}
 use Rattle.catalogue_rows.specs.declared.rows.CatalogueRows.{CatalogueRows}
 use Rattle.catalogue_rows.specs.Holding.{HasOwn, Holds, IsBeside, album_of, album_row, numbers_of, recording_row}
-use Rattle.catalogue_rows.specs.KeptOrders.{kept_recording_id, kept_recording_less}
-use Rattle.catalogue_rows.specs.Places.{AreMembersOf, HoldsBut, IsFewIn, with_over, without_one}
+use Rattle.catalogue_rows.specs.KeptOrders.{kept_recording_id, kept_recording_less, kept_recordings_in_order}
+use Rattle.catalogue_rows.specs.Making.{HasTally}
+use Rattle.catalogue_rows.specs.Room.{and_one}
+use Rattle.catalogue_rows.specs.Places.{AreMembersOf, HavePlaces, HoldsBut, IsFewIn, IsTallyOf, with_over, without_one}
 use Rattle.catalogue_rows.proofs.Albums.{without_apart, without_here}
 use Rattle.catalogue_rows.proofs.Changed.{find_parts}
 use Rattle.catalogue_rows.proofs.Moved.{album_other, album_without, only_found, put-without, set_is_put, without-set}
-use Rattle.catalogue_rows.proofs.Sums.{over_is_put}
+use Rattle.catalogue_rows.proofs.Sums.{album_twice, over_is_put}
 
 -- ---- rows of recordings
 
@@ -303,3 +305,198 @@ Holds-back rows next t id place kept now holds at here same_row same members own
         ∙ put-without kept_recording_less kept_recording_id (λ a b. refl) now rows.recordings.items rows.recordings_ascend
         ∙ sym (set_is_put kept_recording_less kept_recording_id (λ a b. refl) now id rows.recordings.items place rows.recordings_ascend at now_number))
         (AllByRecursion-put (IsBeside t) kept_recording_less now (without kept_recording_id id rows.recordings.items) mine holds.beside)
+
+-- ---- as calls tell it
+
+-- the place that was found among the rows
+pub at_as : (id place : ℕ) (ks slice : List KeptRecording) → slice ≡ ks → IsFirstOfNumber kept_recording_id id slice place
+    → IsFirstOfNumber kept_recording_id id ks place
+at_as id place ks slice same at = subst (λ (l : List KeptRecording). IsFirstOfNumber kept_recording_id id l place) same at
+
+-- or none of them
+pub none_as : (id : ℕ) (ks slice : List KeptRecording) → slice ≡ ks → All (λ (k : KeptRecording). kept_recording_id k ≢ id) slice
+    → All (λ (k : KeptRecording). kept_recording_id k ≢ id) ks
+none_as id ks slice same none = subst (λ (l : List KeptRecording). All (λ (k : KeptRecording). kept_recording_id k ≢ id) l) same none
+
+-- a row of an id that none has is not found
+pub none_found : (id : ℕ) (ks : List KeptRecording) (rows : List RecordingRow) (row : RecordingRow) → map recording_row ks ≡ rows
+    → All (λ (k : KeptRecording). kept_recording_id k ≢ id) ks → find (λ (r : RecordingRow). r.id == id) rows ≡ Some row → ⊥
+none_found id ks rows row is none found =
+    let missing : find (λ (r : RecordingRow). r.id == id) rows ≡ None =
+    ap (find (λ (r : RecordingRow). r.id == id)) (sym is)
+    ∙ sym (find_parts (λ (r : RecordingRow). r.id) id recording_row ks)
+    ∙ sym (ap (option_map recording_row) (not_found kept_recording_id id ks none)) in
+    cc (sym missing ∙ found)
+
+-- both are what stands at the place
+pub same_at : (ks : List KeptRecording) (place : ℕ) (a b : KeptRecording) → place < length ks → a ≡ get_or ks place a → b ≡ get_or ks place b
+    → a ≡ b
+same_at [] place a b inside a_is b_is = absurd (omega (arith, inside))
+same_at (k ∷ ks) zero a b inside a_is b_is = a_is ∙ sym b_is
+same_at (k ∷ ks) (suc place) a b inside a_is b_is = same_at ks place a b (omega (arith, inside)) a_is b_is
+
+-- what stands at the place, whatever is said where there is no place
+pub any_at : (ks : List KeptRecording) (place : ℕ) (kept d : KeptRecording) → place < length ks → kept ≡ get_or ks place kept
+    → kept ≡ get_or ks place d
+any_at [] place kept d inside is = absurd (omega (arith, inside))
+any_at (k ∷ ks) zero kept d inside is = is
+any_at (k ∷ ks) (suc place) kept d inside is = any_at ks place kept d (omega (arith, inside)) is
+
+-- the row that is found is that at the place
+pub row_is : (id place : ℕ) (ks : List KeptRecording) (kept : KeptRecording) (rows : List RecordingRow) (row : RecordingRow)
+    → map recording_row ks ≡ rows → IsFirstOfNumber kept_recording_id id ks place → kept ≡ get_or ks place kept
+    → find (λ (r : RecordingRow). r.id == id) rows ≡ Some row → row ≡ kept.row
+row_is id place ks kept rows row is at here found =
+    let own = found_row id place ks kept rows is at here in cc (sym found ∙ own)
+
+-- recordings ascend with another in a place whose row is the same
+pub rise_set : (ks : List KeptRecording) (id place : ℕ) (kept now : KeptRecording) → Ascends kept_recording_less ks
+    → IsFirstOfNumber kept_recording_id id ks place → kept ≡ get_or ks place kept → now.row ≡ kept.row
+    → Ascends kept_recording_less (set ks place now)
+rise_set ks id place kept now rise at here same =
+    subst (Ascends kept_recording_less)
+    (sym (set_is_put kept_recording_less kept_recording_id (λ a b. refl) now id ks place rise at number))
+    (Ascends-put kept_recording_less kept_recordings_in_order now ks rise)
+  where
+    number : kept_recording_id now ≡ id
+    number = ap (λ (r : RecordingRow). r.id) same ∙ ap kept_recording_id here ∙ at.same kept
+
+-- what an album has of a recording that is found
+pub contains_found : (t : Tables) (id album : ℕ) (row : RecordingRow) (rows : List RecordingRow)
+    → find (λ (r : RecordingRow). r.id == id) rows ≡ Some row → row.album ≡ Some album → Contains (album_of t rows album) (id, measured_in t row)
+contains_found t id album row [] found in_it = absurd (cc found)
+contains_found t id album row (r ∷ rows) found in_it = cases (λ more. contains_found t id album row rows more in_it) (r.id == id) refl found
+  where
+    Has : List (ℕ × Measured) → Type 0
+    Has l = Contains l (id, measured_in t row)
+
+    later : (here : Bool) → Has (album_of t rows album)
+        → Has (map (λ (s : RecordingRow). (s.id, measured_in t s)) (cond here (r ∷ members_in album rows) (members_in album rows)))
+    later true has = (suc has.0, omega (arith, has.1), has.2)
+    later false has = has
+
+    cases : (find (λ (s : RecordingRow). s.id == id) rows ≡ Some row → Has (album_of t rows album)) → (this : Bool) → (r.id == id) ≡ this
+        → cond this (Some r) (find (λ (s : RecordingRow). s.id == id) rows) ≡ Some row → Has (album_of t (r ∷ rows) album)
+    cases rest true is at =
+        let one : r ≡ row = cc at in
+        let same : r.id ≡ id = grind (arith, nat_tests, is) in
+        let named : (album == album) ≡ true = grind (arith, nat_tests) in
+        let inside : is_in_album album r.album ≡ true =
+        subst (λ (s : RecordingRow). is_in_album album s.album ≡ true) (sym one) (rw in_it named) in
+        let head : (r.id, measured_in t r) ≡ (id, measured_in t row) =
+        ap (λ n. (n, measured_in t r)) same ∙ ap (λ (s : RecordingRow). (id, measured_in t s)) one in
+        rw inside (zero, omega arith, head)
+    cases rest false is at = later (is_in_album album r.album) (rest at)
+
+-- each of the id has a place at home, where that at the place has
+pub home_of : (ks : List KeptRecording) (albums : List KeptAlbum) (id : ℕ) (row : RecordingRow) (more : ℕ → ℕ)
+    → AllByRecursion (λ (r : RecordingRow). r.id ≡ id → r ≡ row) (map recording_row ks) → HavePlaces (and_one row.album more) albums
+    → AllByRecursion (λ (kept : KeptRecording). kept.row.id ≡ id → HavePlaces (and_one kept.row.album more) albums) ks
+home_of [] albums id row more only has = tt
+home_of (k ∷ ks) albums id row more only has = (
+  (λ same. subst (λ (r : RecordingRow). HavePlaces (and_one r.album more) albums) (sym (only.0 same)) has),
+  home_of ks albums id row more only.1 has,
+)
+
+-- the only rows of the id at a place
+pub only_at : (rows : List KeptRecording) (id place : ℕ) (kept : KeptRecording) → Ascends kept_recording_less rows
+    → IsFirstOfNumber kept_recording_id id rows place → kept ≡ get_or rows place kept
+    → AllByRecursion (λ (r : RecordingRow). r.id ≡ id → r ≡ kept.row) (map recording_row rows)
+only_at rows id place kept rise at here =
+    only_found id (map recording_row rows) kept.row (recordings_rise rows rise)
+    (found_row id place rows kept (map recording_row rows) refl at here)
+
+-- the place at home of what stands at the place
+pub home_at : (ks : List KeptRecording) (albums : List KeptAlbum) (id place : ℕ) (kept : KeptRecording) (more : ℕ → ℕ)
+    → IsFirstOfNumber kept_recording_id id ks place → kept ≡ get_or ks place kept
+    → AllByRecursion (λ (k : KeptRecording). k.row.id ≡ id → HavePlaces (and_one k.row.album more) albums) ks
+    → HavePlaces (and_one kept.row.album more) albums
+home_at ks albums id place kept more at here home =
+    let P : KeptRecording → Type 0 = λ k. k.row.id ≡ id → HavePlaces (and_one k.row.album more) albums in
+    let its : P kept = subst P (sym here) (All-at P ks home place kept at.inside) in
+    its (ap kept_recording_id here ∙ at.same kept)
+
+-- few without a recording, told of what the album has without it
+pub few_but : (t : Tables) (album : Option ℕ) (id : ℕ) (rows : List RecordingRow) → IsFewIn album id (album_of t rows)
+    → IsFewIn album id (album_of t (without recording_id id rows))
+few_but t None id rows few = tt
+few_but t (Some album) id rows few =
+    let same = ap (λ (l : List (ℕ × Measured)). length l) (album_twice t id rows album ∙ album_without t id rows album) in
+    omega (arith, few, same)
+
+-- the tally that stands beside a row in no album
+pub tally_beside : (rows : CatalogueRows) (id place : ℕ) (kept : KeptRecording) (lifted : Option Tallied)
+    → IsFirstOfNumber kept_recording_id id rows.recordings.items place → kept ≡ get_or rows.recordings.items place kept
+    → kept.row.album ≡ None → lifted ≡ kept.tally
+    → IfSome lifted (λ tally. (t : Tables) (row : RecordingRow) → Holds rows t → find (λ (r : RecordingRow). r.id == id) t.recordings ≡ Some row
+    → StandsForMeasured tally (measured_in t row))
+tally_beside rows id place kept None at here outside is = tt
+tally_beside rows id place kept (Some tally) at here outside is t row holds found =
+    let own : IsBeside t kept = subst (IsBeside t) (sym here) (All-at (IsBeside t) rows.recordings.items holds.beside place kept at.inside) in
+    let one = row_is id place rows.recordings.items kept t.recordings row holds.recordings at here found in
+    subst (λ (r : RecordingRow). StandsForMeasured tally (measured_in t r)) (sym one)
+    (stands kept.row.album kept.tally (measured_in t kept.row) outside (sym is) own)
+  where
+    stands : (album : Option ℕ) (beside : Option Tallied) (m : Measured) → album ≡ None → beside ≡ Some tally → HasOwn album beside m
+        → StandsForMeasured tally m
+    stands None None m outside is own = absurd own
+    stands None (Some other) m outside is own = let one : other ≡ tally = cc is in subst (λ (x : Tallied). StandsForMeasured x m) one own
+    stands (Some album) beside m outside is own = absurd (cc outside)
+
+-- and it is there
+pub some_beside : (t : Tables) (rows : CatalogueRows) (id place : ℕ) (kept : KeptRecording) → Holds rows t
+    → IsFirstOfNumber kept_recording_id id rows.recordings.items place → kept ≡ get_or rows.recordings.items place kept
+    → kept.row.album ≡ None → is_some kept.tally ≡ true
+some_beside t rows id place kept holds at here outside =
+    let own : IsBeside t kept = subst (IsBeside t) (sym here) (All-at (IsBeside t) rows.recordings.items holds.beside place kept at.inside) in
+    some kept.row.album kept.tally (measured_in t kept.row) outside own
+  where
+    some : (album : Option ℕ) (beside : Option Tallied) (m : Measured) → album ≡ None → HasOwn album beside m → is_some beside ≡ true
+    some None None m outside own = absurd own
+    some None (Some tally) m outside own = refl
+    some (Some album) beside m outside own = absurd (cc outside)
+
+-- what follows of any answer
+pub if_some_any : {A : Type 0} (P : A → Type 0) (o : Option A) → ((x : A) → P x) → IfSome o P
+if_some_any P None any = tt
+if_some_any P (Some x) any = any x
+
+-- a tally for a recording that is put: a new one, or its own
+pub tally_for : (t : Tables) (row : RecordingRow) (given own : Option Tallied) → HasTally given row t
+    → IfSome own (λ tally. (r : RecordingRow) → find (λ (s : RecordingRow). s.id == row.id) t.recordings ≡ Some r
+    → StandsForMeasured tally (measured_in t r))
+    → ((r : RecordingRow) → find (λ (s : RecordingRow). s.id == row.id) t.recordings ≡ Some r → album_is_there r.album t.albums ≡ true
+    → is_some own ≡ true)
+    → IsTallyOf (option_or given own) (measured_in t row)
+tally_for t row (Some tally) own fits stands some = fits
+tally_for t row None (Some tally) fits stands some =
+    subst (StandsForMeasured tally) (sym fits.measured) (stands fits.before fits.there)
+tally_for t row None None fits stands some = absurd (cc (some fits.before fits.there fits.home))
+
+-- rows hold but for a recording with their albums standing for the same
+pub but_through : (rows next : CatalogueRows) (id : ℕ) (t : Tables) → HoldsBut rows id t
+    → map album_row next.albums.items ≡ map album_row rows.albums.items
+    → AreMembersOf (album_of t (without recording_id id t.recordings)) next.albums.items
+    → next.recordings.items ≡ rows.recordings.items → next.replies ≡ rows.replies → numbers_of next ≡ numbers_of rows → HoldsBut next id t
+but_through rows next id t but same members recordings same_replies numbers = record {
+  numbers = numbers ∙ but.numbers;
+  albums = same ∙ but.albums;
+  recordings = ap (map recording_row) recordings ∙ but.recordings;
+  replies = subst (λ (kept : KeptReplies). replies.Holds kept t.replies) (sym same_replies) but.replies;
+  in_albums = members;
+  beside = subst (λ (l : List KeptRecording). AllByRecursion (IsBeside t) (without kept_recording_id id l)) (sym recordings) but.beside;
+}
+
+-- homes stay where no place is lost
+pub home_through : (ks : List KeptRecording) (albums next : List KeptAlbum) (id : ℕ) (more : ℕ → ℕ)
+    → ((m : ℕ → ℕ) → HavePlaces m albums → HavePlaces m next)
+    → AllByRecursion (λ (k : KeptRecording). k.row.id ≡ id → HavePlaces (and_one k.row.album more) albums) ks
+    → AllByRecursion (λ (k : KeptRecording). k.row.id ≡ id → HavePlaces (and_one k.row.album more) next) ks
+home_through [] albums next id more through all = tt
+home_through (k ∷ ks) albums next id more through all =
+    ((λ same. through (and_one k.row.album more) (all.0 same)), home_through ks albums next id more through all.1)
+
+-- an answer that is there
+pub some_is : {A : Type 0} (o : Option A) → is_some o ≡ true → (x : A) × (o ≡ Some x)
+some_is None is = absurd (cc is)
+some_is (Some x) is = (x, refl)

@@ -1,5 +1,5 @@
 -- What those who stage changes show of them.
-use Rattle.std.proofs.Common.{◌≡◌, ◌≢◌, ◌≤◌, ◌==◌, ℕ, Bool, true, false, cond, List, [], ◌∷◌, length, Option, None, Some, refl, sym, ap, ◌∙◌, subst, arith}
+use Rattle.std.proofs.Common.{◌≡◌, ◌≢◌, ◌≤◌, ◌==◌, ◌||◌, ℕ, Bool, true, false, cond, List, [], ◌∷◌, length, Option, None, Some, refl, sym, ap, ◌∙◌, subst, arith}
 use Rattle.std.specs.Prelude.{IfSome}
 use Rattle.std.specs.List.{AllByRecursion, find}
 use Rattle.std.specs.Str.{bytes_eq}
@@ -84,7 +84,7 @@ there_holds : (P : ℕ → Type 0) (id : ℕ) (albums : List AlbumRow) → has_a
 there_holds P id [] has all = absurd (cc has)
 there_holds P id (a ∷ albums) has all = cases (λ more. there_holds P id albums more all.1) (a.id == id) refl has
   where
-    cases : (has_album id albums ≡ true → P id) → (here : Bool) → (a.id == id) ≡ here → cond here true (has_album id albums) ≡ true → P id
+    cases : (has_album id albums ≡ true → P id) → (here : Bool) → (a.id == id) ≡ here → (here || has_album id albums) ≡ true → P id
     cases rest true is has_it = let same : a.id ≡ id = grind (arith, nat_tests, is) in subst P same all.0
     cases rest false is has_it = rest has_it
 

@@ -17,7 +17,7 @@ use Rattle.library_model.specs.RowRules.{measured_in, members_in, is_in_album, m
 use Rattle.catalogue_rows.specs.Holding.{album_of}
 use Rattle.catalogue_rows.specs.Opening.{with_row}
 use Rattle.catalogue_rows.specs.Places.{IsFewIn, with_over}
-use Rattle.catalogue_rows.specs.Trying.{DropsRow, GoesElsewhere, IsSumIn, LeavesAlbum, PutsRow}
+use Rattle.catalogue_rows.specs.Trying.{Comes, HasPlaceFor, IsSumIn, LeavesAlbum, PutsRow}
 use Rattle.catalogue_rows.proofs.Moved.{album_put, album_without, album_measured, measured_album}
 
 -- rows of which those of a number were taken out have none of it
@@ -129,3 +129,30 @@ pub sum_of : (next : Tables) (album : ℕ) (recordings : List (ℕ × Measured))
     → recordings ≡ album_of next next.recordings album → IsAlbumSummary (measured_of recordings) summary → IsSumIn next album summary
 sum_of next album recordings summary is sums =
     subst (λ (l : List Measured). IsAlbumSummary l summary) (ap measured_of is ∙ measured_album next next.recordings album) sums
+
+-- a recording that comes into an album, by its id
+pub sum_comes : (t next : Tables) (album id : ℕ) (comes : Comes album id t next) → Ascends recording_less t.recordings
+    → with_recording id (measured_in next comes.row) (without_recording id (album_of t t.recordings album)) ≡ album_of next next.recordings album
+sum_comes t next album id comes rise =
+    subst (λ (n : ℕ). with_recording n (measured_in next comes.row) (without_recording n (album_of t t.recordings album))
+        ≡ album_of next next.recordings album) comes.same
+    (sum_put t next comes.row album rise comes.puts comes.inside)
+
+-- told of what the album has without it
+pub sum_moves : (t next : Tables) (album id : ℕ) (comes : Comes album id t next) → Ascends recording_less t.recordings
+    → with_recording id (measured_in next comes.row) (without_recording id (album_of t (without recording_id id t.recordings) album))
+    ≡ album_of next next.recordings album
+sum_moves t next album id comes rise =
+    ap (with_recording id (measured_in next comes.row))
+    (album_twice t id t.recordings album ∙ album_without t id t.recordings album)
+    ∙ sum_comes t next album id comes rise
+
+-- an album that has a place for it is not full without it
+pub few_comes : (t next : Tables) (album id : ℕ) → Ascends recording_less t.recordings → Comes album id t next → HasPlaceFor album t next
+    → IsFewIn (Some album) id (album_of t t.recordings)
+few_comes t next album id rise comes place =
+    subst (λ (n : ℕ). IsFewIn (Some album) n (album_of t t.recordings)) comes.same
+    (subst (λ (a : Option ℕ). IsFewIn a comes.row.id (album_of t t.recordings)) comes.inside
+    (few_put t comes.row t.recordings rise
+    (subst (λ (a : Option ℕ). IfSome a (λ n. member_count n (put recording_less comes.row t.recordings) ≤ MOST_MEMBERS)) (sym comes.inside)
+    (subst (λ (rs : List RecordingRow). member_count album rs ≤ MOST_MEMBERS) comes.puts.recordings place.few))))

@@ -124,10 +124,7 @@ impl CatalogueRows {
         ensures places { (more : ℕ → ℕ) → HasPlaces self.old (and_one row.album more) → HasPlaces self.new more }
     {
         let own = self.lift(row.id);
-        let beside = match tally.or(own) {
-            Some(tally) => place_in(&mut self.albums, row.album, row.id, tally),
-            None => None,
-        };
+        let beside = place_in(&mut self.albums, row.album, row.id, tally.or(own));
         put_row(
             &mut self.recordings,
             KeptRecording { row, tally: beside },

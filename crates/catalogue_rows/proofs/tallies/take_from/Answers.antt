@@ -3,7 +3,7 @@ use Rattle.std.proofs.lemmas.Option.{IfSome_then}
 use Rattle.album_merge.specs.Members.{IsAlbumOf, without_recording}
 use Rattle.catalogue_rows.specs.Places.{without_one}
 use Rattle.catalogue_rows.specs.Room.{and_one}
-use Rattle.catalogue_rows.proofs.Albums.{has_id, none_there, one_apart, one_here, sets_ascend, sets_members, sets_of, sets_places, sets_rows, some_unless, was_album, without_apart, without_here}
+use Rattle.catalogue_rows.proofs.Albums.{has_id, none_there, one_apart, one_here, sets_ascend, sets_members, sets_of, sets_places, sets_rows, some_unless, spare_stays, was_album, without_apart, without_here}
 use Rattle.catalogue_rows.proofs.Backed.{long_as}
 use Rattle.catalogue_rows.proofs.tallies.take_from.Goals as goal
 
@@ -69,3 +69,12 @@ returns-clause-some c of measured all there has =
     c.as_slice.ensures.value c.in-Some.ensures.there c.index_mut.ensures.value in
     let was = was_album of album c.index_mut.result.now c.remove.new.self c.args.albums.now.items _ s all in
     some_unless c.remove.result c.remove.ensures.none (has_id c.index_mut.result.now.members (of album) c.args.id measured was has)
+
+pub returns-clause-places : goal.returns-clause-places
+returns-clause-places c more all =
+    let album = c.args.album in
+    let s = sets_of album c.remove.new.self c.args.albums.now.items c.as_slice.result.now c.in-Some.place c.index_mut.result.now c.requires
+    c.as_slice.ensures.value c.in-Some.ensures.there c.index_mut.ensures.value in
+    let spare = spare_stays c.remove.result c.index_mut.result.now.members c.remove.new.self c.remove.ensures.spare c.remove.ensures.unchanged in
+    sets_places more more album c.index_mut.result.now c.remove.new.self c.args.albums.now.items _ s (λ other apart. refl)
+    (λ was. omega (arith, spare, was)) all
