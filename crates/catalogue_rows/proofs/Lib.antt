@@ -7,6 +7,7 @@ pub mod Held
 pub mod Laws
 pub mod Moved
 pub mod Placed
+pub mod Rooms
 pub mod Summed
 pub mod Sums
 pub mod Taken
