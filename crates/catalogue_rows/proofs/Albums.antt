@@ -270,6 +270,12 @@ place_made album was members old new s made =
     (λ other apart. let test : (album == other) ≡ false = grind (arith, nat_tests, apart) in rw test refl)
     (λ had. let one = one_in_here album in omega (arith, one, made)) (no_places old)
 
+-- a place in the album that is named
+pub place_made_in : (named : Option ℕ) (album : ℕ) (was : KeptAlbum) (members : Kept) (old new : List KeptAlbum) → named ≡ Some album
+    → Sets album was members old new → 1 ≤ members.spare → HavePlaces (one_in named) new
+place_made_in named album was members old new is s made =
+    subst (λ (n : Option ℕ). HavePlaces (one_in n) new) (sym is) (place_made album was members old new s made)
+
 -- what follows where a call succeeds
 pub ok_then : {T E P Q : Type 0} (r : Result T E) → IfOk r (λ _. P) → (P → Q) → OnOk r Q
 ok_then (Ok x) held follows = follows held

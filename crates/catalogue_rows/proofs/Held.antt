@@ -231,11 +231,12 @@ put_found id row (r ∷ rows) rise found = cases (λ more. put_found id row rows
     above : (rs : List RecordingRow) → AllByRecursion (λ (s : RecordingRow). recording_less r s ≡ true) rs
         → find (λ (s : RecordingRow). s.id == id) rs ≡ Some row → recording_less r row ≡ true
     above [] all is = absurd (cc is)
-    above (s ∷ rs) all is = at (s.id == id) is
+    above (s ∷ rs) all is = at (λ more. above rs all.1 more) (s.id == id) is
       where
-        at : (this : Bool) → cond this (Some s) (find (λ (x : RecordingRow). x.id == id) rs) ≡ Some row → recording_less r row ≡ true
-        at true found_is = let one : s ≡ row = cc found_is in subst (λ (x : RecordingRow). recording_less r x ≡ true) one all.0
-        at false found_is = above rs all.1 found_is
+        at : (find (λ (x : RecordingRow). x.id == id) rs ≡ Some row → recording_less r row ≡ true) → (this : Bool)
+            → cond this (Some s) (find (λ (x : RecordingRow). x.id == id) rs) ≡ Some row → recording_less r row ≡ true
+        at rest true found_is = let one : s ≡ row = cc found_is in subst (λ (x : RecordingRow). recording_less r x ≡ true) one all.0
+        at rest false found_is = rest found_is
 
     cases : (find (λ (s : RecordingRow). s.id == id) rows ≡ Some row → put recording_less row rows ≡ rows) → (this : Bool)
         → (r.id == id) ≡ this → cond this (Some r) (find (λ (s : RecordingRow). s.id == id) rows) ≡ Some row
@@ -431,7 +432,7 @@ pub tally_beside : (rows : CatalogueRows) (id place : ℕ) (kept : KeptRecording
     → IfSome lifted (λ tally. (t : Tables) (row : RecordingRow) → Holds rows t → find (λ (r : RecordingRow). r.id == id) t.recordings ≡ Some row
     → StandsForMeasured tally (measured_in t row))
 tally_beside rows id place kept None at here outside is = tt
-tally_beside rows id place kept (Some tally) at here outside is t row holds found =
+tally_beside rows id place kept (Some tally) at here outside is = λ t row holds found.
     let own : IsBeside t kept = subst (IsBeside t) (sym here) (All-at (IsBeside t) rows.recordings.items holds.beside place kept at.inside) in
     let one = row_is id place rows.recordings.items kept t.recordings row holds.recordings at here found in
     subst (λ (r : RecordingRow). StandsForMeasured tally (measured_in t r)) (sym one)

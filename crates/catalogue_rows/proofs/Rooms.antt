@@ -2,6 +2,8 @@
 use Rattle.std.proofs.Common.{◌≡◌, ◌≤◌, ◌+◌, ℕ, List, [], ◌∷◌, length, Option, None, Some, subst, arith}
 use Rattle.std.specs.Prelude.{IfSome}
 use Rattle.keeper_store.specs.declared.contents.Change.{Change}
+use Rattle.keeper_store.specs.declared.contents.Change.TheVariants.{PutAlbum}
+use Rattle.keeper_store.specs.declared.row_types.AlbumRow.{AlbumRow}
 use Rattle.album_merge.specs.Members.{Kept}
 use Rattle.catalogue_rows.specs.declared.fresh.Fresh.{Fresh}
 use Rattle.catalogue_rows.specs.declared.rows.CatalogueRows.{CatalogueRows}
@@ -17,7 +19,7 @@ less_room rows more less fewer has = record {
 }
 
 -- a new album with places for more has them for fewer
-new_less : (album : Option Kept) (more less : ℕ → ℕ) → ((id : ℕ) → less id ≤ more id) → IfSome album (λ a. (id : ℕ) → more id ≤ a.spare)
+pub new_less : (album : Option Kept) (more less : ℕ → ℕ) → ((id : ℕ) → less id ≤ more id) → IfSome album (λ a. (id : ℕ) → more id ≤ a.spare)
     → IfSome album (λ a. (id : ℕ) → less id ≤ a.spare)
 new_less None more less fewer has = tt
 new_less (Some a) more less fewer has = λ id. let few = fewer id in let its = has id in omega (arith, few, its)
@@ -56,3 +58,20 @@ room_same rows next fresh c cs none room places has =
 pub room_or_less : (rows next : CatalogueRows) → ((more : ℕ) → HasRoom rows more → HasRoom next more) → (more : ℕ) → HasRoom rows (more + 1)
     → HasRoom next more
 room_or_less rows next keeps more has = keeps more (less_room rows (more + 1) more (omega arith) has)
+
+-- After an album's row is put, with what is new.
+pub room_album : (rows next : CatalogueRows) (fresh : Fresh) (row : AlbumRow) (cs : List Change)
+    → ((more : ℕ) → HasRoom rows (more + 1) → HasRoom next more)
+    → ((more : ℕ → ℕ) → HasPlaces rows more → IfSome fresh.album (λ a. more row.id ≤ a.spare) → HasPlaces next more)
+    → HasRoomFor rows fresh (PutAlbum row ∷ cs) → HasRoomFor next (record fresh { album = None }) cs
+room_album rows next fresh row cs room places has = record {
+  room = room (length cs) (less_room rows (length (PutAlbum row ∷ cs)) (length cs + 1) (omega arith) has.room);
+  places = places (puts_into cs)
+      (places_less (puts_into (PutAlbum row ∷ cs)) (puts_into cs) rows.albums.items (λ id. omega arith) has.places) (spare fresh.album has.new);
+  new = tt;
+}
+  where
+    spare : (album : Option Kept) → IfSome album (λ a. (id : ℕ) → puts_into (PutAlbum row ∷ cs) id ≤ a.spare)
+        → IfSome album (λ a. puts_into cs row.id ≤ a.spare)
+    spare None its = tt
+    spare (Some a) its = let at = its row.id in omega (arith, at)

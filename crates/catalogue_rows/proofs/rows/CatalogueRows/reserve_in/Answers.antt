@@ -1,8 +1,6 @@
-use Rattle.std.proofs.Common.{ℕ, Option, refl, sym, subst}
+use Rattle.std.proofs.Common.{refl}
 use Rattle.catalogue_rows.specs.Holding.{album_of}
-use Rattle.catalogue_rows.specs.Places.{HavePlaces}
-use Rattle.catalogue_rows.specs.Room.{one_in}
-use Rattle.catalogue_rows.proofs.Albums.{ok_then, place_made, sets_ascend, sets_members, sets_of, sets_rows}
+use Rattle.catalogue_rows.proofs.Albums.{ok_then, place_made_in, sets_ascend, sets_members, sets_of, sets_rows}
 use Rattle.catalogue_rows.proofs.Changed.{Holds-albums}
 use Rattle.catalogue_rows.proofs.rows.CatalogueRows.reserve_in.Goals as goal
 
@@ -30,5 +28,5 @@ returns-clause-place c =
     let s = sets_of c.in-Some.id c.reserve.new.self c.args.self.now.albums.items c.as_slice.result.now c.in-Some-find_place.place
     c.index_mut.result.now c.args.self.now.albums_ascend c.as_slice.ensures.value c.in-Some-find_place.ensures.there c.index_mut.ensures.value in
     ok_then c.reserve.result c.reserve.ensures.room
-    (λ made. subst (λ (album : Option ℕ). HavePlaces (one_in album) _) (sym c.in-Some.is)
-    (place_made c.in-Some.id c.index_mut.result.now c.reserve.new.self c.args.self.now.albums.items _ s made))
+    (λ made.
+    place_made_in c.args.album c.in-Some.id c.index_mut.result.now c.reserve.new.self c.args.self.now.albums.items _ c.in-Some.is s made)
