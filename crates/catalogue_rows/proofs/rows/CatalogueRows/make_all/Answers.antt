@@ -32,11 +32,11 @@ loop-change-preserved c =
       leads = λ t holds fits.
           let so_far = at.invariant.leads t holds fits in
           let now = so_far.0 in
-          let left = subst (λ (l : List Change). FitsAll l at.fresh now) steps so_far.2.0 in (
+          let left = subst (λ (l : List Change). FitsAll l at.fresh now) steps so_far.2 in (
             changed change now,
             c.make_one-fresh.ensures.held now so_far.1 left.0,
             subst (λ (f : Fresh). FitsAll rest f (changed change now)) (sym c.make_one-fresh.ensures.left) left.1,
-            ap (λ (l : List Change). changed_all l now) (sym steps) ∙ so_far.2.1,
+            ap (λ (l : List Change). changed_all l now) (sym steps) ∙ so_far.3,
           );
     }
 
@@ -47,5 +47,5 @@ returns c t holds fits =
     let empty : into_iter_items at.change-iterator ≡ [] = none_left _ (sym at.invariant.counted ∙ none.0) in
     let so_far = at.invariant.leads t holds fits in
     let same : so_far.0 ≡ changed_all c.args.changes.items t =
-    ap (λ (l : List Change). changed_all l so_far.0) (sym empty) ∙ so_far.2.1 in
+    ap (λ (l : List Change). changed_all l so_far.0) (sym empty) ∙ so_far.3 in
     subst (λ (u : Tables). Holds at.self u) same so_far.1
