@@ -1,9 +1,15 @@
 //! Objects of JSON, put together member by member.
+ghost use Rattle.std.specs.Prelude.{◌≡◌, IfOk, OnOk, string_bytes, false};
+ghost use Rattle.serde_json.specs.Data.{array, no_members, number, object, put as with, string, unsigned};
+ghost use Rattle.serde_json.specs.View.{items_view, view};
+ghost use Rattle.serde_json.specs.Written.{compact_text, has_float};
+ghost use Rattle.library_model.specs.Bodies.{album_id_data, id_items, level_data};
+ghost use Rattle.json_bodies.specs.Objects.{members_of, with_levels};
+
 use db_table::peak_text;
 use lib_base::{Memory, Summary};
 use serde_json::{Map, Value, put};
 use std::alloc::Global;
-use std::marker::Model;
 
 /// An object that is put together. Its members stand in the order of their keys, whatever the order
 /// in which they are put. A key that is put again has the later value.
@@ -13,27 +19,10 @@ pub(crate) struct Object {
     members: Map<String, Value>,
 }
 
-impl Model for Object {
-    ghost use Rattle.serde_json.specs.Data.{Members};
-    ghost use Rattle.serde_json.specs.View.{members_view};
-
-    ghost Value = { Members };
-
-    ghost view = { λ o. members_view o.members.entries };
-}
-
 impl Object {
-    ghost use Rattle.std.specs.Prelude.{◌≡◌, IfOk, OnOk, string_bytes, false};
-    ghost use Rattle.serde_json.specs.Data.{array, no_members, number, object, string, unsigned};
-    ghost use Rattle.serde_json.specs.Data as model;
-    ghost use Rattle.serde_json.specs.View.{view};
-    ghost use Rattle.serde_json.specs.Written.{compact_text, has_float};
-    ghost use Rattle.library_model.specs.Bodies.{album_id_data, id_items, level_data};
-    ghost use Rattle.json_bodies.specs.Levels.{with_levels};
-
     /// An object without members.
     pub(crate) fn new(alloc: Global) -> Object
-        ensures { result ≡ no_members }
+        ensures { members_of result ≡ no_members }
     {
         Object {
             alloc,
@@ -43,7 +32,7 @@ impl Object {
 
     /// Puts a number.
     pub(crate) fn number(&mut self, key: &str, value: u64) -> Result<(), Memory>
-        ensures { OnOk result (self.new ≡ model.put key.now (number (unsigned value)) self.old) }
+        ensures { OnOk result (members_of self.new ≡ with key.now (number (unsigned value)) (members_of self.old)) }
     {
         put(&mut self.members, self.alloc, key, Value::from(value))?;
         Ok(())
@@ -51,7 +40,7 @@ impl Object {
 
     /// Puts a text.
     pub(crate) fn text(&mut self, key: &str, value: &str) -> Result<(), Memory>
-        ensures { OnOk result (self.new ≡ model.put key.now (string value.now) self.old) }
+        ensures { OnOk result (members_of self.new ≡ with key.now (string value.now) (members_of self.old)) }
     {
         let text = String::from_str(self.alloc, value)?;
         put(&mut self.members, self.alloc, key, Value::String(text))?;
@@ -60,7 +49,7 @@ impl Object {
 
     /// Puts the id of an album, or null.
     pub(crate) fn album(&mut self, key: &str, value: Option<u32>) -> Result<(), Memory>
-        ensures { OnOk result (self.new ≡ model.put key.now (album_id_data value) self.old) }
+        ensures { OnOk result (members_of self.new ≡ with key.now (album_id_data value) (members_of self.old)) }
     {
         put(&mut self.members, self.alloc, key, album_value(value))?;
         Ok(())
@@ -68,7 +57,7 @@ impl Object {
 
     /// Puts ids.
     pub(crate) fn ids(&mut self, key: &str, value: &[u32]) -> Result<(), Memory>
-        ensures { OnOk result (self.new ≡ model.put key.now (array (id_items value.now)) self.old) }
+        ensures { OnOk result (members_of self.new ≡ with key.now (array (id_items value.now)) (members_of self.old)) }
     {
         let ids = id_values(self.alloc, value)?;
         put(&mut self.members, self.alloc, key, Value::Array(ids))?;
@@ -77,7 +66,7 @@ impl Object {
 
     /// Puts the levels and the peak of a summary.
     pub(crate) fn levels(&mut self, summary: &Summary) -> Result<(), Memory>
-        ensures { OnOk result (self.new ≡ with_levels summary.now self.old) }
+        ensures { OnOk result (members_of self.new ≡ with_levels summary.now (members_of self.old)) }
     {
         self.level("gain", summary.gain)?;
         self.level("loudness", summary.loudness)?;
@@ -90,7 +79,7 @@ impl Object {
 
     /// Puts a level in hundredths, or null where it is absent.
     fn level(&mut self, key: &str, value: Option<i32>) -> Result<(), Memory>
-        ensures { OnOk result (self.new ≡ model.put key.now (level_data value) self.old) }
+        ensures { OnOk result (members_of self.new ≡ with key.now (level_data value) (members_of self.old)) }
     {
         put(&mut self.members, self.alloc, key, level_value(value))?;
         Ok(())
@@ -98,8 +87,8 @@ impl Object {
 
     /// Its text, on one line.
     pub(crate) fn into_text(self) -> Result<String, Memory>
-        requires { has_float (object self) ≡ false }
-        ensures { IfOk result (λ text. string_bytes text ≡ compact_text (object self)) }
+        requires { has_float (object (members_of self)) ≡ false }
+        ensures { IfOk result (λ text. string_bytes text ≡ compact_text (object (members_of self))) }
     {
         let alloc = self.alloc;
         let text = Value::Object(self.members).to_string(alloc)?;

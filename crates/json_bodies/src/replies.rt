@@ -4,6 +4,7 @@ ghost use Rattle.serde_json.specs.Data.{member, no_members, number, object, unsi
 ghost use Rattle.serde_json.specs.Written.{compact_text};
 ghost use Rattle.library_model.specs.Bodies.{album_data, album_row_reply, kind_text, recording_data, removed_reply, row_reply};
 ghost use Rattle.library_model.specs.Replies as model;
+ghost use Rattle.json_bodies.specs.Objects.{members_of};
 
 use crate::objects::Object;
 use keeper_store::{AlbumRow, RecordingRow};
@@ -62,6 +63,13 @@ pub fn describe_removed(alloc: Global, id: u32) -> Result<Reply, Memory>
 fn recording_text(alloc: Global, row: &RecordingRow) -> Result<String, Memory>
     ensures { IfOk result (λ text. string_bytes text ≡ compact_text (recording_data row.now)) }
 {
+    let object = recording_object(alloc, row)?;
+    object.into_text()
+}
+
+fn recording_object(alloc: Global, row: &RecordingRow) -> Result<Object, Memory>
+    ensures { IfOk result (λ made. object (members_of made) ≡ recording_data row.now) }
+{
     let mut object = Object::new(alloc);
     object.album("album", row.album)?;
     object.number("channels", u64::from(row.channels))?;
@@ -72,18 +80,25 @@ fn recording_text(alloc: Global, row: &RecordingRow) -> Result<String, Memory>
     object.text("name", row.name.as_str())?;
     object.number("take", u64::from(row.take))?;
     object.levels(&row.summary)?;
-    object.into_text()
+    Ok(object)
 }
 
 fn album_text(alloc: Global, row: &AlbumRow, ids: &[u32]) -> Result<String, Memory>
     ensures { IfOk result (λ text. string_bytes text ≡ compact_text (album_data row.now ids.now)) }
+{
+    let object = album_object(alloc, row, ids)?;
+    object.into_text()
+}
+
+fn album_object(alloc: Global, row: &AlbumRow, ids: &[u32]) -> Result<Object, Memory>
+    ensures { IfOk result (λ made. object (members_of made) ≡ album_data row.now ids.now) }
 {
     let mut object = Object::new(alloc);
     object.number("id", u64::from(row.id))?;
     object.text("name", row.name.as_str())?;
     object.ids("recordings", ids)?;
     object.levels(&row.summary)?;
-    object.into_text()
+    Ok(object)
 }
 
 /// The text of an object that has an id alone.

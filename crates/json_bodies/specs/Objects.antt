@@ -1,9 +1,15 @@
--- The levels of a summary as members of an object.
+-- Objects of JSON that are put together.
 use Rattle.std.specs.Prelude.{codes}
 use Rattle.lib_base.specs.declared.files.Summary.{Summary}
 use Rattle.serde_json.specs.Data.{Members, put, string}
+use Rattle.serde_json.specs.View.{members_view}
 use Rattle.sound_model.specs.Texts.{peak_text}
 use Rattle.library_model.specs.Bodies.{level_data}
+use Rattle.json_bodies.specs.declared.objects.Object.{Object}
+
+-- the members that were put
+abbrev pub members_of : Object → Members
+members_of o = members_view o.members.entries
 
 -- members, and the levels of a summary beside them, each under its key
 abbrev pub with_levels : Summary → Members → Members

@@ -1,0 +1,8 @@
+use Rattle.std.proofs.Common.{refl}
+use Rattle.serde_json.proofs.OnLiterals.{serde_json_on_literals}
+use Rattle.json_bodies.proofs.replies.album_object.Goals as goal
+
+pub returns : goal.returns
+unfolding serde_json_on_literals
+returns c =
+    rw (c.in_ok-levels.ensures, c.in_ok-ids.ensures, c.in_ok-text.ensures, c.in_ok-number.ensures, c.new-object.ensures) refl
