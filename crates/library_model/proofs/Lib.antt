@@ -26,5 +26,17 @@ pub mod MadeStates
 pub mod ValidSteps
 pub mod Looking
 pub mod Fitting
+pub mod Members
+pub mod SegmentChanges
+pub mod Taking
+pub mod TakesOut
+pub mod Statuses
+pub mod Leading
+pub mod RowsPut
+pub mod LeadsAlbums
+pub mod LeadsImport
+pub mod LeadsRetake
+pub mod LeadsRegroup
+pub mod LeadsRemove
 pub mod Refusing
 pub mod Closing

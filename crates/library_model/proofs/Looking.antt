@@ -35,6 +35,14 @@ find_has {A} number P n (y ∷ xs) x all is = cases (number y == n) refl (find_h
 
 -- ---- recordings
 
+-- a recording that is found has the id
+pub recording_named : (id : ℕ) (rs : List Recording) (r : Recording) → recording_of id rs ≡ Some r → r.id ≡ id
+recording_named id rs r is = (find_has (λ (x : Recording). x.id) (λ (x : Recording). x ≡ x) id rs r (all_same rs) is).1
+  where
+    all_same : (rs : List Recording) → AllByRecursion (λ (x : Recording). x ≡ x) rs
+    all_same [] = tt
+    all_same (x ∷ rs) = (refl, all_same rs)
+
 -- The recording of an id among rows is the row of the one that the state has.
 found_recordings : (id : ℕ) (rs : List Recording)
     → find (λ (row : RecordingRow). row.id == id) (map recording_row rs) ≡ option_map recording_row (recording_of id rs)
