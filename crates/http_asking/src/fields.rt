@@ -42,7 +42,7 @@ pub fn token_asked(alloc: Global, token: Field<'_>) -> Result<Option<Token>, Mem
 {
     match token {
         Field::Value(text) => token_of(alloc, text),
-        Field::Absent | Field::Repeated => Ok(None),
+        Field::Repeated | Field::Absent => Ok(None),
     }
 }
 

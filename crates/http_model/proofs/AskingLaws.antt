@@ -2,6 +2,8 @@
 use Rattle.std.proofs.Common.{◌≡◌, ◌≤◌, ◌==◌, ℕ, Bool, true, false, List, [], ◌∷◌, length, codes, Option, None, Some, if◌then◌else◌, refl, sym, ap, ◌∙◌, subst, arith}
 use Rattle.std.specs.Prelude.{nat_le, option_map, option_and_then, ⊤}
 use Rattle.std.proofs.lemmas.Bool.Decides.{nat_tests}
+use Rattle.std.specs.Char.{encode_utf8}
+use Rattle.std.specs.Str.{chars, is_utf8}
 use Rattle.std.specs.Str.Parse.{digits_value}
 use Rattle.httparse.specs.Grammar.{RequestHead}
 use Rattle.serde_json.specs.Data.{Data}
@@ -64,9 +66,14 @@ name_in-form body name same =
     of_some (λ text. is_name text ≡ true) if_name (option_and_then as_str (option_and_then (only (codes "name")) (data_in body))) name
     if_name-form same
 
+-- The empty name is one.
+empty-form : is_name [] ≡ true
+unfolding is_utf8 chars encode_utf8
+empty-form = refl
+
 -- The name that header lines give is one.
 pub name_given-form : (values : List (List ℕ)) (name : List ℕ) → name_given values ≡ Some name → is_name name ≡ true
-name_given-form [] name same = subst (λ (text : List ℕ). is_name text ≡ true) (some-same [] name same) refl
+name_given-form [] name same = subst (λ (text : List ℕ). is_name text ≡ true) (some-same [] name same) empty-form
 name_given-form (value ∷ []) name same = if_name-form value name same
 name_given-form (value ∷ other ∷ others) name same = absurd (cc same)
 

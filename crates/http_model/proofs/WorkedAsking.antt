@@ -10,9 +10,12 @@ use Rattle.serde_json.proofs.OnLiterals.{serde_json_on_literals}
 use Rattle.library_model.specs.declared.messages.Command.TheVariants.{NewAlbum, Import, Retake, Regroup, RemoveRecording, RemoveAlbum}
 use Rattle.library_model.specs.declared.messages.Question.TheVariants as about
 use Rattle.library_model.specs.Asked.{change, command, malformed, question, refused}
+use Rattle.library_model.specs.declared.refusals.Refusal.TheVariants.{Memory}
+use Rattle.library_model.specs.Replies.{refusal}
 use Rattle.http_routes.specs.declared.resources.Resource.TheVariants as at
 use Rattle.http_model.specs.declared.refusals.AskingRefusal.TheVariants.{NoRoute, Method, Token, Name, Body}
 use Rattle.http_model.specs.Asking.{allows_of, asked_of, mark_of, name_given, token_in, wanted_at}
+use Rattle.http_model.specs.Exchanges.{allows_in}
 use Rattle.http_model.specs.Refusals.{asking_refusal}
 use Rattle.http_model.specs.Requests.{Framed}
 
@@ -52,6 +55,13 @@ allows_of-recording = refl
 pub allows_of-none : allows_of (row (codes "GET") (codes "/recordings/1") [] []) ≡ []
 unfolding matchit_on_literals is_utf8 chars encode_utf8
 allows_of-none = refl
+
+-- Only a reply of 405 names them.
+pub allows_in-each : allows_in (row (codes "HEAD") (codes "/recordings/1") [] []) (asking_refusal Method)
+    ∷ allows_in (row (codes "HEAD") (codes "/recordings/1") [] []) (refusal Memory) ∷ []
+    ≡ (codes "GET" ∷ codes "DELETE" ∷ []) ∷ [] ∷ []
+unfolding matchit_on_literals is_utf8 chars encode_utf8
+allows_in-each = refl
 
 -- A question needs no token.
 pub asked_of-question : asked_of (row (codes "GET") (codes "/albums/12") [] []) ≡ question (about.Album 12)

@@ -6,7 +6,7 @@ use Rattle.std.specs.Char.{encode_utf8}
 use Rattle.httparse.proofs.OnLiterals.{httparse_on_literals}
 use Rattle.httparse.specs.Grammar.{RequestHead, Field, IsField, ReadsRequest, crlf, is_token_byte, is_uri_byte, is_value_byte}
 use Rattle.http_model.specs.declared.refusals.FramingRefusal.TheVariants.{Frame, Length, Size}
-use Rattle.http_model.specs.Requests.{Framed, HeadAt, Frames, Extent, refused, long, extent, closes, ended, turns, RequestsOf, head_limit, field_limit, body_limit}
+use Rattle.http_model.specs.Requests.{Framed, HeadAt, Frames, Extent, refused, long, extent, closes, ended, turns, IsFront, RequestsOf, head_limit, field_limit, body_limit}
 use Rattle.http_model.specs.Fields.{is_named}
 
 -- a head of that method and version, with these header lines
@@ -167,3 +167,8 @@ row-RequestsOf = (codes "X", row-Frames, inr (refl, (refl, inr (λ e. cc e, refl
 -- Where none is answered, and no byte is there, the input ends.
 pub row-RequestsOf-none : RequestsOf 0 [] [] ended
 row-RequestsOf-none = (refl, inl (refl, refl))
+
+-- That request is a front of them.
+pub row-IsFront : IsFront 1 (row_bytes ++ codes "X") (record { head = row_head; body = codes "abc" } ∷ [])
+unfolding httparse_on_literals
+row-IsFront = (codes "X", row-Frames, inr (refl, tt))

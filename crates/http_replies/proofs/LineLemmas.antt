@@ -28,11 +28,6 @@ pub tail-pieces : (size closing : List ℕ)
     → codes "Content-Length: " ++ (size ++ (13 ∷ 10 ∷ (closing ++ 13 ∷ 10 ∷ []))) ≡ line (codes "Content-Length: " ++ size) ++ closing ++ line []
 tail-pieces size closing = regroup_tail (codes "Content-Length: ") size (13 ∷ 10 ∷ []) closing
 
--- The three parts in a row are the lines of a reply.
-pub parts-join : (status type allow length closing end : List ℕ)
-    → ((status ++ type) ++ allow) ++ (length ++ closing ++ end) ≡ status ++ type ++ allow ++ length ++ closing ++ end
-parts-join status type allow length closing end = simp append_assoc
-
 -- The line of a route's methods, piece by piece.
 pub allow-pieces : (methods : List ℕ) → codes "Allow: " ++ (methods ++ 13 ∷ 10 ∷ []) ≡ line (codes "Allow: " ++ methods)
 allow-pieces methods = simp append_assoc

@@ -1,12 +1,14 @@
--- The ids of an album's recordings, and that no number of a recording or an album is a float.
+-- The members of recordings and albums, and that none of their numbers is a float.
 use Rattle.std.proofs.Common.{◌≡◌, ℕ, Option, None, Some, List, [], ◌∷◌, map, false, refl, ap}
-use Rattle.std.specs.Prelude.{ℤ, pos, negsuc}
-use Rattle.serde_json.specs.Data.{Data, array, item, number, unsigned}
+use Rattle.std.specs.Prelude.{ℤ, pos, negsuc, codes}
+use Rattle.serde_json.proofs.OnLiterals.{serde_json_on_literals}
+use Rattle.serde_json.specs.Data.{Data, array, item, no_members, number, object, put, string, unsigned}
 use Rattle.serde_json.specs.View.{items_of}
 use Rattle.serde_json.specs.Written.{has_float}
 use Rattle.keeper_store.specs.declared.row_types.AlbumRow.{AlbumRow}
 use Rattle.keeper_store.specs.declared.row_types.RecordingRow.{RecordingRow}
-use Rattle.library_model.specs.Bodies.{album_data, album_id_data, id_items, level_data, recording_data}
+use Rattle.library_model.specs.Bodies.{album_data, album_id_data, id_items, kind_text, level_data, recording_data}
+use Rattle.json_bodies.specs.Objects.{with_levels}
 
 -- ---- ids
 
@@ -18,6 +20,31 @@ id_data id = number (unsigned id)
 pub id_items-of : (ids : List ℕ) → items_of (map id_data ids) ≡ id_items ids
 id_items-of [] = refl
 id_items-of (id ∷ ids) = ap (item (id_data id)) (id_items-of ids)
+
+-- ---- members
+
+-- The members of a recording, in the order in which they are put.
+pub recording_members : (r : RecordingRow) → object (with_levels r.summary
+    (put (codes "take") (number (unsigned r.take))
+    (put (codes "name") (string r.name)
+    (put (codes "kind") (string (kind_text r.kind))
+    (put (codes "id") (number (unsigned r.id))
+    (put (codes "frames") (number (unsigned r.summary.frames))
+    (put (codes "depth") (number (unsigned r.depth))
+    (put (codes "channels") (number (unsigned r.channels))
+    (put (codes "album") (album_id_data r.album) no_members)))))))))
+    ≡ recording_data r
+unfolding serde_json_on_literals
+recording_members r = refl
+
+-- Those of an album.
+pub album_members : (a : AlbumRow) (ids : List ℕ) → object (with_levels a.summary
+    (put (codes "recordings") (array (id_items ids))
+    (put (codes "name") (string a.name)
+    (put (codes "id") (number (unsigned a.id)) no_members))))
+    ≡ album_data a ids
+unfolding serde_json_on_literals
+album_members a ids = refl
 
 -- ---- floats
 

@@ -65,8 +65,8 @@ impl Object {
     }
 
     /// Puts the levels and the peak of a summary.
-    pub(crate) fn levels(&mut self, summary: &Summary) -> Result<(), Memory>
-        ensures { OnOk result (members_of self.new ≡ with_levels summary.now (members_of self.old)) }
+    pub(crate) fn levels(&mut self, summary: Summary) -> Result<(), Memory>
+        ensures { OnOk result (members_of self.new ≡ with_levels summary (members_of self.old)) }
     {
         self.level("gain", summary.gain)?;
         self.level("loudness", summary.loudness)?;

@@ -79,7 +79,7 @@ fn recording_object(alloc: Global, row: &RecordingRow) -> Result<Object, Memory>
     object.text("kind", kind_text(row.kind))?;
     object.text("name", row.name.as_str())?;
     object.number("take", u64::from(row.take))?;
-    object.levels(&row.summary)?;
+    object.levels(row.summary)?;
     Ok(object)
 }
 
@@ -97,7 +97,7 @@ fn album_object(alloc: Global, row: &AlbumRow, ids: &[u32]) -> Result<Object, Me
     object.number("id", u64::from(row.id))?;
     object.text("name", row.name.as_str())?;
     object.ids("recordings", ids)?;
-    object.levels(&row.summary)?;
+    object.levels(row.summary)?;
     Ok(object)
 }
 

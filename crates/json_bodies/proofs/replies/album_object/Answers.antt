@@ -1,8 +1,7 @@
-use Rattle.std.proofs.Common.{refl}
-use Rattle.serde_json.proofs.OnLiterals.{serde_json_on_literals}
+use Rattle.json_bodies.proofs.Recordings.{album_members}
 use Rattle.json_bodies.proofs.replies.album_object.Goals as goal
 
 pub returns : goal.returns
-unfolding serde_json_on_literals
 returns c =
-    rw (c.in_ok-levels.ensures, c.in_ok-ids.ensures, c.in_ok-text.ensures, c.in_ok-number.ensures, c.new-object.ensures) refl
+    rw (c.in_ok-levels.ensures, c.in_ok-ids.ensures, c.in_ok-text.ensures, c.in_ok-number.ensures, c.new-object.ensures,
+    c.from.ensures, c.as_str.ensures) (album_members c.args.row.now c.args.ids.now)
