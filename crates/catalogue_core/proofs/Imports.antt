@@ -79,7 +79,7 @@ pub record IsImport (s : State) (album : Option ℕ) (name file : List ℕ) (sum
 import_fits : (s : State) (album : Option ℕ) (name file : List ℕ) (m : Measured) (tally : Tallied) (albums : List AlbumRow) (token mark : List ℕ)
     → IsValid s → album_is_there album (tables_of s).albums ≡ true → crowds None album (tables_of s).recordings ≡ false → IsWithinBounds m
     → StandsForMeasured tally m
-    → AreResummed (tables_of s) (tables_after s album name file m tally.summary) (ids_in album) albums
+    → AreResummed (tables_of s).albums (tables_after s album name file m tally.summary) (ids_in album) albums
     → FitsAll (import_batch (next_numbers (tables_of s)) m (row_in s album name file m tally.summary) albums token mark
     (row_reply 201 (row_in s album name file m tally.summary))) (record { tally = Some tally; album = None }) (tables_of s)
 import_fits s album name file m tally albums token mark valid there few within stands sums =
@@ -106,7 +106,7 @@ import_of_sound s token mark album name file sound summary resummed plan open_ h
     let albums = in_list resummed in
     let sums = resummed_list t (tables_after s album name file m summary) album resummed import.sums in
     let leads = import_leads s token mark album name file sound summary albums open_.valid open_.fresh home.named limit home.there finds few left sums in
-    let Fits : Summary → Type 0 = λ u. AreResummed t (tables_after s album name file m u) (ids_in album) albums
+    let Fits : Summary → Type 0 = λ u. AreResummed t.albums (tables_after s album name file m u) (ids_in album) albums
         → FitsAll (import_batch (next_numbers t) m (row_in s album name file m u) albums token mark (row_reply 201 (row_in s album name file m u)))
         (record { tally = Some import.tally; album = None }) t in
     let fits = subst Fits import.levels

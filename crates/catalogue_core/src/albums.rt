@@ -13,7 +13,8 @@ ghost use Rattle.catalogue_core.specs.Plans.{DecidesOn, IsPlan, Leaves};
 
 use crate::Library;
 use crate::looking::count_of;
-use crate::plans::{Decision, MOST_CHANGES, NUMBERS_END, Plan, refused};
+use crate::plans::{Decision, MOST_CHANGES, NUMBERS_END, Plan};
+use crate::refusing::refused;
 use album_merge::Album;
 use catalogue_rows::Fresh;
 use json_bodies::{describe_album, describe_removed};

@@ -18,7 +18,8 @@ ghost use Rattle.catalogue_core.specs.Resumming.{in_list};
 
 use crate::Library;
 use crate::looking::{is_there, recording_of};
-use crate::plans::{Decision, MOST_CHANGES, Plan, refused};
+use crate::plans::{Decision, MOST_CHANGES, Plan};
+use crate::refusing::refused;
 use crate::resumming::{push_album, resum_moved, resum_without};
 use catalogue_rows::Fresh;
 use json_bodies::describe_row;
