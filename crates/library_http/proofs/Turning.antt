@@ -1,7 +1,7 @@
 -- What one turn of serving does, by what was found where the next request was looked for.
-use Rattle.std.proofs.Common.{◌≡◌, ◌≢◌, ◌<◌, ◌≤◌, ◌+◌, ℕ, suc, List, [], ◌∷◌, ◌++◌, length, take, Option, Result, Ok, Err, refl, sym, ap, ◌∙◌, subst, append-nil, length-take, arith}
-use Rattle.std.specs.Io.KnownBytes.{Consumes, IsAtEnd}
+use Rattle.std.proofs.Common.{◌≡◌, ◌≢◌, ◌<◌, ◌≤◌, ◌+◌, ℕ, suc, List, [], ◌∷◌, ◌++◌, length, take, Option, Result, Ok, Err, refl, sym, ap, ◌∙◌, subst, append-nil}
 use Rattle.std.proofs.KnownBytes.{Consumes-kept, Consumes-nil}
+use Rattle.std.proofs.lemmas.List.{length-take-le}
 use Rattle.lib_base.specs.Sources.{Reads, SourceView}
 use Rattle.lib_base.specs.Writes.{SinkView}
 use Rattle.library_model.specs.Stands.{IsWithinLimit}
@@ -93,7 +93,7 @@ Serves-looked {E} s held into n source0 source1 sink w keeps empty reads some =
     length-of : held ++ take n into ≡ [] → length (take n into) ≡ 0
     length-of none = ap length (subst (λ (bytes : List ℕ). bytes ++ take n into ≡ []) empty none)
     taken_some : length (take n into) ≢ 0
-    taken_some none = let most = reads.within in absurd (some (omega (arith, none, length-take n into, most)))
+    taken_some none = some (sym (length-take-le n into reads.within) ∙ none)
 
 pub Serves-looked_end : {E : Type 0} (s : State) (held into : List ℕ) (source0 source1 : SourceView) (sink : SinkView) (w : World)
     → Keeps w.library s → held ≡ [] → Reads {E} source0 source1 into (Ok 0) → 0 < length into
