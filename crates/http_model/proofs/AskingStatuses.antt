@@ -13,7 +13,7 @@ use Rattle.http_routes.specs.Resources.{resource_found, route_of}
 use Rattle.http_routes.specs.Routes.{has_method}
 use Rattle.http_model.specs.declared.refusals.AskingRefusal.{AskingRefusal}
 use Rattle.http_model.specs.declared.refusals.AskingRefusal.TheVariants.{NoRoute, Method, Token, Name, Body}
-use Rattle.http_model.specs.Asking.{asked_at, asked_if, asked_of, asked_or_changing, change_asked, name_given, or_malformed, question_by, token_in, token_values, wanted_at}
+use Rattle.http_model.specs.Asking.{asked_at, asked_if, asked_of, asked_or_changing, change_asked, mark_asked, name_given, name_values, or_malformed, question_by, token_in, token_values, wanted_at}
 use Rattle.http_model.specs.Refusals.{asking_refusal}
 use Rattle.http_model.specs.Requests.{Framed}
 
@@ -47,7 +47,7 @@ asked_of-below q = at_found (resource_found q.head.target)
   where
     tokened : (resource : Resource) (token : Option (List ℕ)) → RefusesBelow (change_asked q resource token)
     tokened resource None = refusal_below Token
-    tokened resource (Some token) = wanted_at-below token _ resource _ q.body
+    tokened resource (Some token) = wanted_at-below token (mark_asked q) resource (name_values q.head) q.body
 
     asked : (resource : Resource) (about : Option Question) → RefusesBelow (asked_or_changing q resource about)
     asked resource (Some about) = tt

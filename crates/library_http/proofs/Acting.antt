@@ -407,14 +407,16 @@ Acts-settled s token mark wanted p reply r lib0 lib1 lib2 lib3 k0 k2 v0 v1 v3 ke
     elim (commits.settles) [
       | inl made ↦ Acts-made s token mark wanted p reply r lib0 lib1 lib2 lib3 k0 k2 v0 v1 v3 keeps within stages spared put prepares granted made
           later sweeps
-      | inr (inl failed) ↦
-          subst (λ (q : Reply). Acts s asked q (world lib0 k0 v0) (world lib3 k2 v3)) (sym failed.1)
-          (Acts-left s token mark wanted (refusal cause.Keeper) r lib0 lib1 lib2 lib3 k0 k2 v0 v1 v3 keeps stages spared failed.0 sweeps
-          (record { way = keeper_failed (accepts p.reply prepares.next); answers = (prepares.decides, tt, refl, refl) })
-          (CountsOne-keeper (world lib0 k0 v0) (world lib3 k2 v1) stages.later failed.2))
-      | inr (inr wanting) ↦
-          subst (λ (q : Reply). Acts s asked q (world lib0 k0 v0) (world lib3 k2 v3)) (sym wanting.1)
-          (Acts-left s token mark wanted (refusal cause.Memory) r lib0 lib1 lib2 lib3 k0 k2 v0 v1 v3 keeps stages spared wanting.0 sweeps
-          (record { way = without_memory; answers = (refl, refl) })
-          (CountsOne-neither (refusal cause.Memory) (world lib0 k0 v0) (world lib3 k2 v1) (omega arith) (omega arith) stages.later later))
+      | inr other ↦ elim other [
+        | inl failed ↦
+            subst (λ (q : Reply). Acts s asked q (world lib0 k0 v0) (world lib3 k2 v3)) (sym failed.1)
+            (Acts-left s token mark wanted (refusal cause.Keeper) r lib0 lib1 lib2 lib3 k0 k2 v0 v1 v3 keeps stages spared failed.0 sweeps
+            (record { way = keeper_failed (accepts p.reply prepares.next); answers = (prepares.decides, tt, refl, refl) })
+            (CountsOne-keeper (world lib0 k0 v0) (world lib3 k2 v1) stages.later failed.2))
+        | inr wanting ↦
+            subst (λ (q : Reply). Acts s asked q (world lib0 k0 v0) (world lib3 k2 v3)) (sym wanting.1)
+            (Acts-left s token mark wanted (refusal cause.Memory) r lib0 lib1 lib2 lib3 k0 k2 v0 v1 v3 keeps stages spared wanting.0 sweeps
+            (record { way = without_memory; answers = (refl, refl) })
+            (CountsOne-neither (refusal cause.Memory) (world lib0 k0 v0) (world lib3 k2 v1) (omega arith) (omega arith) stages.later later))
+      ]
     ]

@@ -6,3 +6,4 @@ mod Making
 mod Releases
 mod Replying
 mod Serving
+mod Turning

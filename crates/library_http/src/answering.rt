@@ -31,7 +31,7 @@ use std::thread::Threads;
 
 /// What a request was answered.
 #[derive(Drop)]
-pub(crate) struct Answer {
+pub(crate) struct Given {
     /// None is want of memory.
     pub reply: Option<Reply>,
     /// The route whose methods the reply names.
@@ -52,7 +52,7 @@ pub(crate) fn answer<R: Threads + Sync, D: Keeper, V: Vault, L: Ledger>(
     body: Bytes,
     workers: u32,
     steps: &mut Steps<L>,
-) -> Answer
+) -> Given
     requires heading { HasHeading bytes.now heading.now }
     requires within { IsWithinLimit body }
     requires some { 1 ≤ workers }
@@ -67,11 +67,11 @@ pub(crate) fn answer<R: Threads + Sync, D: Keeper, V: Vault, L: Ledger>(
         (world library.new (D.shown keeper.new) (V.shown vault.new)) }
 {
     match ask_for(alloc, paths, bytes, heading, body.as_slice()) {
-        Ok(Asking::Refused { reply, allows }) => Answer {
+        Ok(Asking::Refused { reply, allows }) => Given {
             reply: Some(reply),
             allows,
         },
-        Ok(Asking::Question(question)) => Answer {
+        Ok(Asking::Question(question)) => Given {
             reply: ask(library, &question, vault).ok(),
             allows: None,
         },
@@ -79,14 +79,14 @@ pub(crate) fn answer<R: Threads + Sync, D: Keeper, V: Vault, L: Ledger>(
             token,
             mark,
             resource,
-        }) => Answer {
+        }) => Given {
             reply: change(
                 rt, alloc, library, keeper, vault, bytes, heading, body, token, mark, resource,
                 workers, steps,
             ),
             allows: None,
         },
-        Err(Memory) => Answer {
+        Err(Memory) => Given {
             reply: None,
             allows: None,
         },
@@ -95,17 +95,17 @@ pub(crate) fn answer<R: Threads + Sync, D: Keeper, V: Vault, L: Ledger>(
 
 /// Writes what was replied, after which the connection closes or not. For want of memory it writes a
 /// fixed text, which takes none.
-pub(crate) fn write_answer<K: Sink>(
+pub(crate) fn write_given<K: Sink>(
     alloc: Global,
     sink: &mut K,
-    answer: &Answer,
+    given: &Given,
     closes: bool,
 ) -> Result<(), Outside>
     ensures { WritesAll (K.shown sink.old) (K.shown sink.new)
-        (spelled closes (allowed_in answer.now.reply (methods_if answer.now.allows)) (reply_given answer.now.reply)) result }
+        (spelled closes (allowed_in given.now.reply (methods_if given.now.allows)) (reply_given given.now.reply)) result }
 {
-    match &answer.reply {
-        Some(reply) => write_reply(alloc, sink, reply, answer.allows, closes),
+    match &given.reply {
+        Some(reply) => write_reply(alloc, sink, reply, given.allows, closes),
         None => write_memory(sink, closes),
     }
 }

@@ -15,7 +15,7 @@ ghost use Rattle.library_http.specs.Turns as turns;
 ghost use Rattle.library_http.specs.Turns.{RefusesBy, TurnDoes, TurnsOn};
 ghost use Rattle.library_http.specs.World.{World, KeepsFaults, world};
 
-use crate::answering::{answer, write_answer};
+use crate::answering::{answer, write_given};
 use catalogue_core::Library;
 use http_inbox::{Inbox, Next, Request, next_request};
 use http_model::FramingRefusal;
@@ -247,7 +247,7 @@ fn serve_request<R: Threads + Sync, K: Sink, D: Keeper, V: Vault, L: Ledger>(
 {
     let Request { heading, body } = request;
     let size = body.len();
-    let answer = answer(
+    let given = answer(
         rt,
         alloc,
         paths,
@@ -261,7 +261,7 @@ fn serve_request<R: Threads + Sync, K: Sink, D: Keeper, V: Vault, L: Ledger>(
         steps,
     );
     inbox.pass(&heading, size);
-    turn_of(heading.closes, write_answer(alloc, sink, &answer, heading.closes))
+    turn_of(heading.closes, write_given(alloc, sink, &given, heading.closes))
 }
 
 /// The turn whose reply was written, or written in part, after which the session closes or not.
