@@ -45,7 +45,7 @@ pub(crate) fn read_matches<'a>(
     ensures { IfOk result (λ found. MatchOption found
         (fault_of (app_of application.entry) (map string_bytes words.entry.now) ≢ [])
         (λ matches. (fault_of (app_of application.entry) (map string_bytes words.entry.now) ≡ [])
-            × (rows_of (found_of matches) ≡ matches_of (app_of application.entry) (map string_bytes words.entry.now)))) }
+        × (rows_of (found_of matches) ≡ matches_of (app_of application.entry) (map string_bytes words.entry.now)))) }
 {
     match application.try_get_matches_from(words) {
         Ok(matches) => Ok(Some(matches)),

@@ -16,6 +16,7 @@ const MOST_WORDS: usize = 8;
 
 /// How many workers measure a sound at most, and how many do where the words say nothing.
 const MOST_WORKERS: u32 = 64;
+
 const WORKERS: u32 = 4;
 
 /// How many requests a session answers at most where the words say nothing.
@@ -28,7 +29,10 @@ const MOST_CONNECTIONS: u32 = 65_535;
 #[derive(Clone, Copy, Debug, PartialEq, Eq)]
 pub enum Command {
     /// Answers the requests of one input.
-    Session { workers: u32, requests: u32 },
+    Session {
+        workers: u32,
+        requests: u32,
+    },
     /// Answers those of so many connections, one after another. `requests` counts for each alone.
     Serve {
         connections: u32,
@@ -73,11 +77,7 @@ fn is_put(word: &str) -> bool
 }
 
 /// The command of this first word that the words give.
-fn read_named(
-    alloc: Global,
-    name: &str,
-    words: &[String],
-) -> Result<Option<Command>, Memory>
+fn read_named(alloc: Global, name: &str, words: &[String]) -> Result<Option<Command>, Memory>
     ensures { IfOk result (λ command. command ≡ command_named name.now (map string_bytes words.now)) }
 {
     match name {
