@@ -1,5 +1,5 @@
 -- What serving connections does, one after another.
-use Rattle.std.specs.Prelude.{◌≡◌, ◌<◌, ◌≤◌, ◌+◌, ◌⊎◌, ℕ, Bool, true, false, List, [], ◌∷◌, ◌++◌, length, map, count_by, Option, Some, None, Result, Ok, Err, IfSome, ⊤}
+use Rattle.std.specs.Prelude.{◌≡◌, ◌<◌, ◌≤◌, ◌+◌, ◌⊎◌, ℕ, false, List, [], ◌∷◌, ◌++◌, length, map, sum_by, Option, Some, None, Result, Ok, Err, IfSome, ⊤}
 use Rattle.std.specs.List.{AllByRecursion}
 use Rattle.std.specs.Io.KnownBytes.{Appends}
 use Rattle.lib_base.specs.Doors.{DoorView}
@@ -65,19 +65,21 @@ GainsAll connections old new =
 abbrev pub BeginsEmpty : Connection → Type 0
 BeginsEmpty c = IfSome c.sink.written (λ bytes. bytes ≡ [])
 
-abbrev pub is_source_fault : Connection → Bool
-is_source_fault c = is_of_source c.how
-  where
-    is_of_source : How → Bool
-    is_of_source how.SourceFault = true
-    is_of_source _ = false
+-- one where a connection ended by a fault of its source
+abbrev pub fault_of_source : How → ℕ
+fault_of_source how.SourceFault = 1
+fault_of_source _ = 0
 
-abbrev pub is_sink_fault : Connection → Bool
-is_sink_fault c = is_of_sink c.how
-  where
-    is_of_sink : How → Bool
-    is_of_sink how.SinkFault = true
-    is_of_sink _ = false
+-- one where it ended by a fault of its sink
+abbrev pub fault_of_sink : How → ℕ
+fault_of_sink how.SinkFault = 1
+fault_of_sink _ = 0
+
+abbrev pub source_fault : Connection → ℕ
+source_fault c = fault_of_source c.how
+
+abbrev pub sink_fault : Connection → ℕ
+sink_fault c = fault_of_sink c.how
 
 -- The door let these connections in, one after another, and each was handed back, so that none is out. As many of its sources as ended
 -- by a fault of theirs are counted, or more, and so of its sinks.
@@ -87,8 +89,8 @@ pub record HandsBack (connections : List Connection) (old new : DoorView) : Type
   pub ended : Goes (GainsAll connections) old.ended new.ended
   pub fresh : AllByRecursion BeginsEmpty connections
   pub later : old.faults ≤ new.faults
-  pub failed_sources : RoseBy (count_by is_source_fault connections) old.failed_sources new.failed_sources
-  pub failed_sinks : RoseBy (count_by is_sink_fault connections) old.failed_sinks new.failed_sinks
+  pub failed_sources : RoseBy (sum_by source_fault connections) old.failed_sources new.failed_sources
+  pub failed_sinks : RoseBy (sum_by sink_fault connections) old.failed_sinks new.failed_sinks
 
 -- ---- the lines
 

@@ -46,6 +46,13 @@ pub record ServingRan (count requests : ℕ) (end : Status) (connections : List 
   pub lines : EndsWith end count connections before.sink.written now.sink.written
   pub source : now.source ≡ before.source
 
+-- The command was carried out over a library, with that status.
+abbrev pub CarriesOut : Command → Status → Tables → Library → Seen → Seen → Type 0
+CarriesOut (command.Session workers requests) end tables library before now =
+    (how : How) × (answered : ℕ) × SessionRan requests how answered tables library before now × (end ≡ status_of how)
+CarriesOut (command.Serve count workers requests) end tables library before now =
+    (connections : List Connection) × ServingRan count requests end connections tables library before now
+
 -- The library of the keeper's tables was opened, of which no row breaks a rule, and then a command ran over it.
 pub record Opened (Ran : Tables → Library → Seen → Seen → Type 0) (before now : Seen) : Type 0 where
   pub opened : Seen

@@ -1,8 +1,8 @@
 use Rattle.std.proofs.Common.{ℕ, List, ◌∙◌, subst}
 use Rattle.report_cli.specs.declared.statuses.Status.TheVariants as status
-use Rattle.report_cli.specs.Running.{Prints}
+use Rattle.report_cli.specs.Lines.{Prints}
 use Rattle.report_cli.specs.Statuses.{code}
-use Rattle.report_cli.proofs.running.print_bad_row.Goals as goal
+use Rattle.report_cli.proofs.lines.print_bad_row.Goals as goal
 
 pub returns-in-Ok-clause-prints : goal.returns-in-Ok-clause-prints
 returns-in-Ok-clause-prints g c =
