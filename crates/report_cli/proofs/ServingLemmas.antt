@@ -177,7 +177,7 @@ uncounted failed now (suc faults) is = omega (arith, is)
 
 -- the sources that ended by a fault are counted
 source_counted : (h : How) (failed now faults : ℕ) → (h ≡ how.SourceFault → Rose 0 faults) → now ≡ count_with failed faults
-    → RoseBy (fault_of_source h + 0) failed now
+    → RoseBy (0 + fault_of_source h) failed now
 source_counted how.SourceFault failed now faults rose is = counted failed now faults (rose refl) is
 source_counted how.Ended failed now faults rose is = uncounted failed now faults is
 source_counted how.Unframeable failed now faults rose is = uncounted failed now faults is
@@ -187,7 +187,7 @@ source_counted how.Memory failed now faults rose is = uncounted failed now fault
 
 -- and so are the sinks
 sink_counted : (h : How) (failed now faults : ℕ) → (h ≡ how.SinkFault → Rose 0 faults) → now ≡ count_with failed faults
-    → RoseBy (fault_of_sink h + 0) failed now
+    → RoseBy (0 + fault_of_sink h) failed now
 sink_counted how.SinkFault failed now faults rose is = counted failed now faults (rose refl) is
 sink_counted how.Ended failed now faults rose is = uncounted failed now faults is
 sink_counted how.Unframeable failed now faults rose is = uncounted failed now faults is
@@ -284,8 +284,9 @@ lines_more : (number : ℕ) (cs : List Connection) (c : Connection)
     → lines_from number (cs ++ c ∷ []) ≡ lines_from number cs ++ line_of (number + length cs) c
 lines_more number [] c = append-nil (line_of number c) ∙ ap (λ n. line_of n c) (omega arith)
 lines_more number (x ∷ cs) c =
-    ap (λ l. line_of number x ++ l) (lines_more (number + 1) cs c ∙ ap (λ n. lines_from (number + 1) cs ++ line_of n c) (omega arith))
-    ∙ sym (append_assoc (line_of number x) (lines_from (number + 1) cs) (line_of (number + (length cs + 1)) c))
+    let next : number + 1 + length cs ≡ number + length (x ∷ cs) = omega arith in
+    ap (λ l. line_of number x ++ l) (lines_more (number + 1) cs c ∙ ap (λ n. lines_from (number + 1) cs ++ line_of n c) next)
+    ∙ sym (append_assoc (line_of number x) (lines_from (number + 1) cs) (line_of (number + length (x ∷ cs)) c))
 
 -- what serving has done before a turn, of connections of which so many were served
 pub record SoFar (n served : ℕ) (connections : List Connection) (sink_before sink_now : Option (List ℕ)) (d0 d1 : DoorView) (w0 w1 : World)
