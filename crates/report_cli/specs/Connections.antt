@@ -8,7 +8,8 @@ use Rattle.lib_base.specs.Writes.{AppendsPart, SinkView}
 use Rattle.keeper_store.specs.Goes.{Goes}
 use Rattle.library_model.specs.State.{State}
 use Rattle.http_model.specs.declared.refusals.FramingRefusal.{FramingRefusal}
-use Rattle.http_model.specs.Requests.{Framed, End, ended, turns, unframeable, AreRequests}
+use Rattle.http_model.specs.Refusals.{framing_refusal}
+use Rattle.http_model.specs.Requests.{Framed, End, ended, turns, unframeable, RequestsOf}
 use Rattle.catalogue_core.specs.Kept.{Keeps}
 use Rattle.library_http.specs.declared.serving.How.{How}
 use Rattle.library_http.specs.declared.serving.How.TheVariants as how
@@ -126,7 +127,7 @@ EndsWith _ count connections old new = ⊥
 abbrev pub IsEnd : How → End → Type 0
 IsEnd how.Ended end = end ≡ ended
 IsEnd how.Turns end = end ≡ turns
-IsEnd how.Unframeable end = (refusal : FramingRefusal) × (end ≡ unframeable refusal)
+IsEnd how.Unframeable end = (cause : FramingRefusal) × (end ≡ unframeable (framing_refusal cause))
 IsEnd how.SourceFault end = ⊤
 IsEnd how.SinkFault end = ⊤
 IsEnd how.Memory end = ⊤
@@ -134,7 +135,7 @@ IsEnd how.Memory end = ⊤
 -- the connection ended as the requests of the bytes do that its source held, of which so many are answered at most
 abbrev pub EndsByBytes : ℕ → Connection → Type 0
 EndsByBytes requests c =
-    IfSome c.source.left (λ input. (asked : List Framed) (end : End) → AreRequests requests input asked end → IsEnd c.how end)
+    IfSome c.source.left (λ input. (asked : List Framed) (end : End) → RequestsOf requests input asked end → IsEnd c.how end)
 
 -- ---- what serving does
 

@@ -39,7 +39,7 @@ pub(crate) fn serve<R: Threads + Sync, K: Sink, D: Keeper, V: Vault, O: Door>(
     ensures of_door { CountsFault (result ≡ Status.DoorFault) (O.shown door.old).faults (O.shown door.new).faults }
 {
     for served in 0..connections {
-        if let Err(status) = serve_next(
+        let turn = serve_next(
             rt,
             alloc,
             library,
@@ -50,8 +50,10 @@ pub(crate) fn serve<R: Threads + Sync, K: Sink, D: Keeper, V: Vault, O: Door>(
             served + 1,
             workers,
             requests,
-        ) {
-            return status;
+        );
+        match turn {
+            Ok(()) => {}
+            Err(status) => return status,
         }
     }
     Status::Ended
