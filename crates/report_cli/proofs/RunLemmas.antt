@@ -205,11 +205,13 @@ session_status n h count m workers tables library before now ran is source sink 
         is source sink memory told session.content session.ends)
 
 -- memory was wanting, or not
-wanting : (m : ℕ) (P : Type 0) → (m ≢ code status.Memory → P) → (m ≡ code status.Memory) ⊎ P
-wanting m P h = elim (nat_same m (code status.Memory)) [ inl is ↦ inl is | inr other ↦ inr (h other) ]
-  where
-    nat_same : (a b : ℕ) → (a ≡ b) ⊎ (a ≢ b)
-    nat_same a b = omega arith
+wanting : (h : How) (m : ℕ) (P : Type 0) → m ≡ code (status_of h) → (m ≢ code status.Memory → P) → (m ≡ code status.Memory) ⊎ P
+wanting how.Memory m P is h = inl is
+wanting how.Ended m P is h = inr (h (λ e. omega (arith, is, e)))
+wanting how.Unframeable m P is h = inr (h (λ e. omega (arith, is, e)))
+wanting how.Turns m P is h = inr (h (λ e. omega (arith, is, e)))
+wanting how.SourceFault m P is h = inr (h (λ e. omega (arith, is, e)))
+wanting how.SinkFault m P is h = inr (h (λ e. omega (arith, is, e)))
 
 -- the status of serving that ended so
 serving_status : (end : Status) (count : ℕ) (connections : List Connection) (old new : Option (List ℕ)) (m : ℕ)
@@ -229,7 +231,7 @@ serving_status status.Turns count connections old new m ends is sink door = absu
 -- a bad row fixes the status of every command
 bad_row_fixes : (o : Option Command) (left : Option (List ℕ)) (told : Option Tables) (m : ℕ) (bad : BadRow) → IsSome o
     → IfSome told (λ t. IsFirstBad t (Some bad)) → m ≡ code status.BadRow → IsFixed o left told m
-bad_row_fixes None left told m bad some first is = absurd some
+bad_row_fixes None left told m bad some first is = absurd (cc some)
 bad_row_fixes (Some done) left None m bad some first is = tt
 bad_row_fixes (Some done) left (Some t) m bad some first is = inl ((bad, first), is)
 
@@ -251,7 +253,7 @@ fixed_status (not_opened (refusal.BadRow bad)) words before now m runs source si
       | inr printed ↦ inr (bad_row_fixes (command_of words) before.source.left before.keeper.tables m bad runs.0 runs.2 printed)
     ]
 fixed_status (answered h count) words before now m (workers, n, is, opened, end) source sink keeper door =
-    wanting m _ (λ memory.
+    wanting h m _ end (λ memory.
         let same = ap (λ (v : _). v.left) opened.opens.source in
         let fixed = session_status n h count m workers opened.is_opened.tables opened.library opened.opened now opened.ran end source sink memory in
         let at_first = subst (λ l. IsFixedOver (command.Session workers n) l opened.is_opened.tables m) same fixed in
@@ -275,7 +277,7 @@ over_unbroken told P tables loaded none = of_loaded told (λ t. HasBadRow t → 
 pub bad_row_status : (course : Course) (words : List (List ℕ)) (before now : Seen) (n : ℕ) → Runs course words before now n → IsCommand words
     → IfSome before.keeper.tables (λ t. HasBadRow t → (n ≡ code status.BadRow) ⊎ ((n ≡ code status.KeeperFault) ⊎ IsBrokenOff n))
 bad_row_status unread words before now n runs is = for_told before.keeper.tables _ (λ t h. inr (inr (inr runs.2)))
-bad_row_status not_a_command words before now n runs is = absurd (subst IsSome runs.0 is)
+bad_row_status not_a_command words before now n runs is = absurd (cc (subst IsSome runs.0 is))
 bad_row_status (not_opened refusal.KeeperFault) words before now n runs is = for_told before.keeper.tables _ (λ t h. inr (inl runs.3))
 bad_row_status (not_opened refusal.Memory) words before now n runs is = for_told before.keeper.tables _ (λ t h. inr (inr (inr runs.3)))
 bad_row_status (not_opened (refusal.BadRow bad)) words before now n runs is =

@@ -34,7 +34,7 @@ pub returns-in-Err-KeeperFault-clause-runs : goal.returns-in-Err-KeeperFault-cla
 returns-in-Err-KeeperFault-clause-runs g c = λ words is. (
   not_opened refusal.KeeperFault,
   (
-    subst IsSome (sym is) tt,
+    subst IsSome (sym is) refl,
     record {
       source = refl;
       tables = c.open.ensures.tables;
@@ -52,7 +52,7 @@ pub returns-in-Err-BadRow-clause-runs : goal.returns-in-Err-BadRow-clause-runs
 returns-in-Err-BadRow-clause-runs g c = λ words is. (
   not_opened (refusal.BadRow c.in-Err-BadRow.bad),
   (
-    subst IsSome (sym is) tt,
+    subst IsSome (sym is) refl,
     record {
       source = refl;
       tables = c.open.ensures.tables;
@@ -70,7 +70,7 @@ pub returns-in-Err-Memory-clause-runs : goal.returns-in-Err-Memory-clause-runs
 returns-in-Err-Memory-clause-runs g c = λ words is. (
   not_opened refusal.Memory,
   (
-    subst IsSome (sym is) tt,
+    subst IsSome (sym is) refl,
     record {
       source = refl;
       tables = c.open.ensures.tables;

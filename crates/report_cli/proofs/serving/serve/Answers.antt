@@ -24,15 +24,15 @@ loop-served-preserved g c =
       so_far = (
         before.so_far.0 ++ turn.0,
         turn_on c.args.requests c.loop-served.served before.so_far.0 turn.0 (g.K.Sink.shown c.args.sink.now).written
-            (g.K.Sink.shown c.loop-served.sink).written (g.K.Sink.shown c.serve_next.new.sink).written (g.O.Door.shown c.args.door.now)
-            (g.O.Door.shown c.loop-served.door) (g.O.Door.shown c.serve_next.new.door)
+            (g.K.Sink.shown c.loop-served.sink).written (g.K.Sink.shown c.serve_next-turn.new.sink).written (g.O.Door.shown c.args.door.now)
+            (g.O.Door.shown c.loop-served.door) (g.O.Door.shown c.serve_next-turn.new.door)
             (world c.args.library.now (g.D.Keeper.shown c.args.keeper.now) (g.V.Vault.shown c.args.vault.now))
             (world c.loop-served.library (g.D.Keeper.shown c.loop-served.keeper) (g.V.Vault.shown c.loop-served.vault))
-            (world c.serve_next.new.library (g.D.Keeper.shown c.serve_next.new.keeper) (g.V.Vault.shown c.serve_next.new.vault))
+            (world c.serve_next-turn.new.library (g.D.Keeper.shown c.serve_next-turn.new.keeper) (g.V.Vault.shown c.serve_next-turn.new.vault))
             before.so_far.1 turn.1 turn.2,
       );
-      sink = omega (arith, before.sink, c.serve_next.ensures.of_sink.later);
-      door = omega (arith, before.door, c.serve_next.ensures.of_door.later);
+      sink = omega (arith, before.sink, c.serve_next-turn.ensures.of_sink.later);
+      door = omega (arith, before.door, c.serve_next-turn.ensures.of_door.later);
     }
 
 pub returns-in-Err-clause-serves : goal.returns-in-Err-clause-serves
@@ -41,13 +41,13 @@ returns-in-Err-clause-serves g c =
     let turn = c.in-Err.ensures.serves in (
       so_far.0 ++ turn.0,
       serves_both c.args.requests so_far.0 turn.0 (g.O.Door.shown c.args.door.now) (g.O.Door.shown c.loop-served.door)
-          (g.O.Door.shown c.serve_next.new.door)
+          (g.O.Door.shown c.serve_next-turn.new.door)
           (world c.args.library.now (g.D.Keeper.shown c.args.keeper.now) (g.V.Vault.shown c.args.vault.now))
           (world c.loop-served.library (g.D.Keeper.shown c.loop-served.keeper) (g.V.Vault.shown c.loop-served.vault))
-          (world c.serve_next.new.library (g.D.Keeper.shown c.serve_next.new.keeper) (g.V.Vault.shown c.serve_next.new.vault))
+          (world c.serve_next-turn.new.library (g.D.Keeper.shown c.serve_next-turn.new.keeper) (g.V.Vault.shown c.serve_next-turn.new.vault))
           so_far.1.serves turn.1,
       turn_stops c.in-Err.status c.args.requests c.loop-served.served c.args.connections so_far.0 turn.0
-          (g.K.Sink.shown c.args.sink.now).written (g.K.Sink.shown c.loop-served.sink).written (g.K.Sink.shown c.serve_next.new.sink).written
+          (g.K.Sink.shown c.args.sink.now).written (g.K.Sink.shown c.loop-served.sink).written (g.K.Sink.shown c.serve_next-turn.new.sink).written
           (g.O.Door.shown c.args.door.now) (g.O.Door.shown c.loop-served.door)
           (world c.args.library.now (g.D.Keeper.shown c.args.keeper.now) (g.V.Vault.shown c.args.vault.now))
           (world c.loop-served.library (g.D.Keeper.shown c.loop-served.keeper) (g.V.Vault.shown c.loop-served.vault))
