@@ -1,4 +1,4 @@
-use Rattle.std.proofs.Common.{ℕ, refl, sym, subst, map, string_bytes, arith, rules}
+use Rattle.std.proofs.Common.{ℕ, refl, sym, ◌∙◌, subst, map, string_bytes, arith, rules}
 use Rattle.report_cli.specs.Running.{Runs}
 use Rattle.report_cli.specs.Seen.{seen}
 use Rattle.report_cli.proofs.RunLemmas.{bad_row_status, fixed_status, turns_of_session}
@@ -7,7 +7,7 @@ use Rattle.report_cli.proofs.running.run.Goals as goal
 pub returns-in-Ok-Some-clause-runs : goal.returns-in-Ok-Some-clause-runs
 returns-in-Ok-Some-clause-runs g c =
     let words = map string_bytes c.args.words.now in
-    let ran = c.run_command.ensures.runs words (sym c.in-Ok-Some.ensures.reads) in
+    let ran = c.run_command.ensures.runs words (sym c.in-Ok-Some.ensures.reads ∙ c.in-Ok-Some.field-0-is) in
     let P : ℕ → Type 0 = λ n. Runs ran.0 words
     (seen (g.S.Source.shown c.args.source.now) (g.K.Sink.shown c.args.sink.now) (g.D.Keeper.shown c.args.keeper.now)
     (g.V.Vault.shown c.args.vault.now) (g.O.Door.shown c.args.door.now))

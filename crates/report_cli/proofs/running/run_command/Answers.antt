@@ -1,7 +1,11 @@
 use Rattle.std.proofs.Common.{refl, sym, subst, IsSome}
 use Rattle.catalogue_core.specs.declared.libraries.OpenRefusal.TheVariants as refusal
+use Rattle.library_model.specs.declared.bad_rows.BadRow.{BadRow}
+use Rattle.report_cli.specs.declared.statuses.Status.TheVariants as status
+use Rattle.report_cli.specs.Lines.{Prints, bad_row_line}
 use Rattle.report_cli.specs.Running.{not_opened}
 use Rattle.report_cli.specs.Seen.{seen}
+use Rattle.report_cli.specs.Statuses.{code}
 use Rattle.report_cli.proofs.RunLemmas.{bad_opened, carried, has_bad_row}
 use Rattle.report_cli.proofs.running.run_command.Goals as goal
 
@@ -49,7 +53,9 @@ returns-in-Err-KeeperFault-clause-runs g c = λ words is. (
 )
 
 pub returns-in-Err-BadRow-clause-runs : goal.returns-in-Err-BadRow-clause-runs
-returns-in-Err-BadRow-clause-runs g c = λ words is. (
+returns-in-Err-BadRow-clause-runs g c = λ words is.
+    let P : BadRow → Type 0 = λ bad. Prints (bad_row_line bad) status.BadRow (g.K.Sink.shown c.args.sink.now)
+    (g.K.Sink.shown c.print_bad_row.new.sink) (code c.print_bad_row.result) in (
   not_opened (refusal.BadRow c.in-Err-BadRow.bad),
   (
     subst IsSome (sym is) refl,
@@ -62,7 +68,7 @@ returns-in-Err-BadRow-clause-runs g c = λ words is. (
       door = refl;
     },
     bad_opened _ _ _ c.in-Err-BadRow.field-0-is c.in-Err-BadRow.ensures.opens,
-    c.print_bad_row.ensures.prints,
+    subst P (sym c.in-Err-BadRow.bad-is) c.print_bad_row.ensures.prints,
   ),
 )
 
