@@ -68,7 +68,7 @@ returns-in-Err-BadRow-clause-runs g c = λ words is.
       door = refl;
     },
     bad_opened _ _ _ c.in-Err-BadRow.field-0-is c.in-Err-BadRow.ensures.opens,
-    subst P (sym c.in-Err-BadRow.bad-is) c.print_bad_row.ensures.prints,
+    subst P c.in-Err-BadRow.bad-is c.print_bad_row.ensures.prints,
   ),
 )
 
