@@ -72,7 +72,8 @@ class Case:
         self.failing[first] = [int(n) for n in second.split()]
 
     def set_album(self, rest, first, second):
-        self.library.recordings[int(first)].album = int(second)
+        for r in self.library.recordings.values():
+            r.album = int(second) if r.id == int(first) else r.album
 
     LINES = {
         "words": lambda c, rest, *_: setattr(c, "words", ["" if w == "''" else w for w in rest.split()]),

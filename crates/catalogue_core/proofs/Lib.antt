@@ -1,4 +1,14 @@
-pub mod Deciding
-pub mod FoundRows
+pub mod AcceptedBounds
+pub mod Asked
+pub mod Closings
+pub mod Decided
+pub mod Imports
 pub mod Loading
-pub mod Summing
+pub mod NewAlbums
+pub mod Planned
+pub mod Puts
+pub mod Regroups
+pub mod Retakes
+pub mod Rooms
+pub mod SeenLaws
+pub mod Taken

@@ -19,7 +19,7 @@ use Rattle.album_merge.proofs.Joining.{has_none, ids_joined}
 use Rattle.library_model.specs.declared.limits.TheConstants.{MOST_MEMBERS}
 use Rattle.library_model.specs.RowRules.{measured_in, members_in, is_in_album, member_count, has_album}
 use Rattle.catalogue_rows.specs.Opening.{AreAlbumsOf, HasPlace, HavePlace, with_one, with_row}
-use Rattle.catalogue_rows.specs.Tallied.{album_of}
+use Rattle.catalogue_rows.specs.Holding.{album_of}
 
 -- what follows where a call succeeds
 pub OnOk_then : {T E P Q : Type 0} (r : Result T E) → OnOk r P → (P → Q) → OnOk r Q

@@ -18,7 +18,7 @@ use Rattle.library_model.specs.declared.limits.TheConstants.{MOST_MEMBERS}
 use Rattle.library_model.specs.RowRules.{first_bad_row, measured_in, is_in_album, album_is_there, member_count, IsSummedRecording, other_recording_summary, IsFirstBad}
 use Rattle.catalogue_rows.specs.declared.building.Built.{Built}
 use Rattle.catalogue_rows.specs.Opening.{AreAlbumsOf, AreOwn, AreSummed, HasPlace, HavePlace, IsBuilt, IsFirstOther, IsFirstSummary, IsOther, with_row}
-use Rattle.catalogue_rows.specs.Tallied.{HasOwn, album_of}
+use Rattle.catalogue_rows.specs.Holding.{HasOwn, album_of}
 use Rattle.catalogue_rows.proofs.Placed.{AllZip-more, AllZip-weaken, AllByRecursion-any, album_more, earlier, has_place}
 use Rattle.catalogue_rows.proofs.Summed.{other_more}
 use Rattle.catalogue_rows.proofs.Unbroken.{unbroken}

@@ -13,7 +13,7 @@ use Rattle.library_model.specs.RowRules.{measured_in, is_in_album, IsFirstBad, I
 use Rattle.catalogue_rows.specs.declared.building.Built.{Built}
 use Rattle.catalogue_rows.specs.declared.opening.NotOpened.{NotOpened}
 use Rattle.catalogue_rows.specs.declared.opening.NotOpened.TheVariants.{BadRow as Bad, Memory}
-use Rattle.catalogue_rows.specs.Tallied.{HasOwn, album_of}
+use Rattle.catalogue_rows.specs.Holding.{HasOwn, album_of}
 
 -- the first of the rows of which a fact does not hold, if there is one
 abbrev pub IsFirstOther : {A : Type 0} → (A → Type 0) → (A → BadRow) → List A → Option BadRow → Type 0

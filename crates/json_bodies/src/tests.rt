@@ -1,5 +1,7 @@
-//! What bodies of requests say. Memory is ample here, so no answer is want of it.
-use crate::{is_name, read_album, read_name};
+//! What bodies of requests say, and those of replies. Memory is ample here, so no answer is want of it.
+use crate::{describe_album, describe_removed, is_name, read_album, read_name};
+use keeper_store::AlbumRow;
+use lib_base::{Summary, Text};
 use std::alloc::{AllocError, Global};
 use std::test::Fail;
 
@@ -115,5 +117,48 @@ fn names_have_a_form(rt: HostRuntime) -> Result<(), Fail> {
     ] {
         assert_eq!(rt; is_name(text), is, "{text:?}");
     }
+    Ok(())
+}
+
+/// An album without recordings.
+fn empty_album(alloc: Global) -> Result<AlbumRow, AllocError> {
+    Ok(AlbumRow {
+        id: 1,
+        name: Text::of(String::from_str(alloc, "A")?),
+        summary: Summary {
+            frames: 0,
+            loudness: None,
+            range: None,
+            momentary: None,
+            short_term: None,
+            true_peak: None,
+            peak: 0,
+            gain: None,
+        },
+    })
+}
+
+#[test]
+fn albums_and_removals_are_described(rt: HostRuntime) -> Result<(), Fail> {
+    let alloc = rt.alloc();
+    let row = empty_album(alloc)?;
+    for (ids, want) in [
+        (
+            [].as_slice(),
+            r#"{"gain":null,"id":1,"loudness":null,"momentary":null,"name":"A","peak":"0.000000","range":null,"recordings":[],"short":null,"true_peak":null}"#,
+        ),
+        (
+            [7, 12].as_slice(),
+            r#"{"gain":null,"id":1,"loudness":null,"momentary":null,"name":"A","peak":"0.000000","range":null,"recordings":[7,12],"short":null,"true_peak":null}"#,
+        ),
+    ] {
+        let reply = describe_album(alloc, 201, &row, ids)?;
+        assert_eq!(rt;
+            (reply.status, reply.body.as_slice()),
+            (201, want.as_bytes())
+        );
+    }
+    let removed = describe_removed(alloc, 7)?;
+    assert_eq!(rt; removed.body.as_slice(), br#"{"removed":7}"#.as_slice());
     Ok(())
 }

@@ -18,6 +18,12 @@ SeenAs (Some row) mark Fresh = ⊥
 SeenAs (Some row) mark (Kept reply) = (row.mark ≡ mark) × (reply.now ≡ json row.status row.body)
 SeenAs (Some row) mark Other = row.mark ≢ mark
 
+-- P, where the request sees that nothing is kept
+abbrev pub IfFresh : Seen → Type 0 → Type 0
+IfFresh Fresh P = P
+IfFresh (Kept reply) P = ⊤
+IfFresh Other P = ⊤
+
 -- the replies before the place have lesser tokens, those from there on have not
 pub record IsPlaceOfToken (token : List ℕ) (replies : List KeptReply) (place : ℕ) : Type 0 where
   pub within : place ≤ length replies

@@ -24,8 +24,8 @@ impl KeptReplies {
     ghost use Rattle.std.specs.Str.{bytes_eq};
     ghost use Rattle.keeper_store.specs.Puts.{put, reply_less};
     ghost use Rattle.keeper_store.specs.declared.row_types.ReplyRow.{ReplyRow};
-    ghost use Rattle.kept_replies.specs.Holding.{Holds, HasRoom};
-    ghost use Rattle.kept_replies.specs.Seeing.{SeenAs};
+    ghost use Rattle.kept_replies.specs.Holding.{Holds, HasRoom, IsFresh};
+    ghost use Rattle.kept_replies.specs.Seeing.{IfFresh, SeenAs};
     ghost use Rattle.kept_replies.specs.Tokens.{text_of};
 
     /// The replies of rows that ascend by their tokens.
@@ -40,6 +40,7 @@ impl KeptReplies {
     /// Makes room for so many replies more.
     pub fn reserve(&mut self, more: usize) -> Result<(), Memory>
         ensures held { (rows : List ReplyRow) → Holds self.old rows → Holds self.new rows }
+        ensures kept { (more : ℕ) → HasRoom self.old more → HasRoom self.new more }
         ensures room { OnOk result (HasRoom self.new more) }
     {
         self.replies.reserve(more)?;
@@ -57,8 +58,9 @@ impl KeptReplies {
 
     /// What a request with this token and this mark sees, found by halving over the tokens.
     pub fn seen(&self, token: &Token, mark: &[u8; 16]) -> Seen<'_>
-        ensures { (rows : List ReplyRow) → Holds self.now rows
+        ensures sees { (rows : List ReplyRow) → Holds self.now rows
             → SeenAs (find (λ (row : ReplyRow). bytes_eq row.token (text_of token.now)) rows) mark.now result }
+        ensures fresh { IfFresh result (IsFresh self.now (text_of token.now)) }
     {
         see(find_reply(self.replies.as_slice(), token.as_str()), mark)
     }

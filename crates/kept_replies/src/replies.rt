@@ -1,12 +1,12 @@
 //! One reply kept under a token, and looked up among others.
-ghost use Rattle.std.specs.Prelude.{◌≡◌, List, Option, option_copied, option_map};
+ghost use Rattle.std.specs.Prelude.{◌≡◌, None, List, Option, option_copied, option_map};
 ghost use Rattle.std.specs.List.{find};
 ghost use Rattle.std.specs.Str.{bytes_eq};
 ghost use Rattle.keeper_store.specs.Puts.{Ascends};
 ghost use Rattle.keeper_store.specs.declared.row_types.ReplyRow.{ReplyRow};
 ghost use Rattle.kept_replies.specs.Orders.{kept_less, kept_in_order};
 ghost use Rattle.kept_replies.specs.Rows.{kept_of};
-ghost use Rattle.kept_replies.specs.Seeing.{IsPlaceOfToken, SeenAs};
+ghost use Rattle.kept_replies.specs.Seeing.{IfFresh, IsPlaceOfToken, SeenAs};
 
 use keeper_store::{Ranked, ReplyRow};
 use lib_base::Text;
@@ -64,7 +64,8 @@ pub enum Seen<'a> {
 
 /// How a request with a mark sees what was found under its token.
 pub(crate) fn see<'a>(found: Option<&'a KeptReply>, mark: &[u8; 16]) -> Seen<'a>
-    ensures { (row : Option ReplyRow) → option_copied found.entry ≡ option_map kept_of row → SeenAs row mark.now result }
+    ensures sees { (row : Option ReplyRow) → option_copied found.entry ≡ option_map kept_of row → SeenAs row mark.now result }
+    ensures fresh { IfFresh result (option_copied found.entry ≡ None) }
 {
     match found {
         Some(kept) => if kept.mark.as_slice() == mark.as_slice() {

@@ -1,16 +1,15 @@
 -- There is one verdict, and an import within the limits is granted.
-use Rattle.std.proofs.Common.{Bool, true, ◌≡◌, ℕ, false, Option, None, Some, ◌||◌, nat_le, if◌then◌else◌, List, refl, sym, ap, ◌∙◌, subst}
+use Rattle.std.proofs.Common.{◌≡◌, ◌||◌, ℕ, Bool, true, false, Option, None, Some, nat_le, List, sym, ap, ◌∙◌, subst}
 use Rattle.lib_base.specs.declared.files.Summary.{Summary}
 use Rattle.file_model.specs.Pcm.{Pcm}
 use Rattle.library_model.specs.declared.messages.Command.{Command}
 use Rattle.library_model.specs.declared.messages.Command.TheVariants.{NewAlbum, Import, Retake, Regroup, RemoveRecording, RemoveAlbum}
-use Rattle.library_model.specs.declared.messages.Reply.{Reply}
-use Rattle.library_model.specs.declared.refusals.Refusal.TheVariants.{Ids}
+use Rattle.library_model.specs.declared.refusals.Refusal.{Refusal}
+use Rattle.library_model.specs.declared.refusals.Refusal.TheVariants.{AlbumFull, Ids}
 use Rattle.library_model.specs.Asked.{Asked, Wanted, change, command, malformed, question, refused}
-use Rattle.library_model.specs.Findings.{Finding, Finds}
-use Rattle.library_model.specs.Machine.{Decides, DecidesChange, DecidesCommand, OfAlbum, OfFile, OfRecording, Step, Sums, Verdict, accepts, import_step, is_there, keeping, kept_under, makes, new_album_step, recording_of, refuses, regroup_step, remove_album_step, remove_step, retake_step, stays, with_albums}
-use Rattle.library_model.specs.Replies.{refusal}
-use Rattle.library_model.specs.State.{Album, Kept, Recording, State}
+use Rattle.library_model.specs.Findings.{Finding, Finds, measured}
+use Rattle.library_model.specs.Machine.{Decides, DecidesChange, DecidesCommand, OfAlbum, OfFile, OfRecording, Step, Sums, Verdict, accepts, import_step, imported, is_crowded, is_there, keeping, kept_under, makes, new_album_step, new_recording, recording_of, recording_reply, refuses, regroup_step, remove_album_step, remove_step, retake_step, retaken, retaking, unless, verdict_reply, with_albums}
+use Rattle.library_model.specs.State.{Album, Kept, Recording, State, numbers_end}
 use Rattle.library_model.proofs.Measuring.{Finds_unique}
 use Rattle.library_model.proofs.Resumming.{Resums-unique}
 
@@ -72,21 +71,31 @@ Decides-unique s (change token mark wanted) v w x y =
 
 -- ---- imports
 
--- The import of an accepted file under a fresh token, for which numbers are left, is granted: its verdict replies 201.
-pub import_granted : (s : State) (token mark name file : List ℕ) (sound : Pcm) (summary : Summary) (verdict : Verdict)
-    → kept_under token s.replies ≡ None → Finds file (measured sound summary)
+-- where a test fails, the step behind it is made
+pub passed : (test : Bool) (cause : Refusal) (step : Step) (verdict : Verdict) → test ≡ false → Sums (unless test cause step) verdict
+    → Sums step verdict
+passed test cause step verdict is sums = subst (λ (b : Bool). Sums (unless b cause step) verdict) is sums
+
+-- The import of an accepted file under a fresh token is granted, where its album is there and has room, and numbers are left: its
+-- verdict replies 201.
+pub import_granted : (s : State) (token mark : List ℕ) (album : Option ℕ) (name file : List ℕ) (sound : Pcm) (summary : Summary)
+    (verdict : Verdict) → kept_under token s.replies ≡ None → is_there album s.albums ≡ true → Finds file (measured sound summary)
+    → is_crowded album (imported s album name file sound summary).recordings ≡ false
     → (nat_le numbers_end s.next_recording || nat_le numbers_end s.next_take) ≡ false
-    → Decides s (change token mark (command (Import name file))) verdict → (verdict_reply verdict).status ≡ 201
-import_granted s token mark name file sound summary verdict fresh finds left decides =
-    let Of : Option Kept → Type 0 = λ kept. DecidesChange s token mark (command (Import name file)) kept verdict in
-    let fresh_change : Of None = subst Of fresh decides in
-    let decided : Verdict = fresh_change.0 in
-    let by = fresh_change.1 in
+    → Decides s (change token mark (command (Import album name file))) verdict → (verdict_reply verdict).status ≡ 201
+import_granted s token mark album name file sound summary verdict fresh there finds room left decides =
+    let Of : Option Kept → Type 0 = λ kept. DecidesChange s token mark (command (Import album name file)) kept verdict in
+    let of_fresh : Of None = subst Of fresh decides in
+    let decided : Verdict = of_fresh.0 in
+    let InAlbum : Bool → Type 0 = λ b. OfAlbum b (OfFile file (import_step s album name file)) decided in
+    let by : InAlbum true = subst InAlbum there of_fresh.1 in
     let same : by.0 ≡ measured sound summary = Finds_unique file by.0 (measured sound summary) by.1 finds in
-    let sums : Sums (import_step s name file (measured sound summary)) decided =
-    subst (λ (f : Finding). Sums (import_step s name file f) decided) same by.2 in
-    let reply = recording_reply 201 (new_recording s name file sound summary) in
-    let step : Bool → Step = λ lacks. if lacks then refuses (refusal Ids) else makes (λ _. reply) (imported s name file sound summary) in
-    let made : Sums (step false) decided = subst (λ (lacks : Bool). Sums (step lacks) decided) left sums in
-    ap (λ (v : Verdict). (verdict_reply v).status) fresh_change.2
+    let OfFinding : Finding → Type 0 = λ f. Sums (import_step s album name file f) decided in
+    let sums : OfFinding (measured sound summary) = subst OfFinding same by.2 in
+    let next : State = imported s album name file sound summary in
+    let step : Step = makes (λ _. recording_reply 201 (new_recording s album name file sound summary)) next in
+    let lacks : Bool = nat_le numbers_end s.next_recording || nat_le numbers_end s.next_take in
+    let made : Sums step decided =
+    passed lacks Ids step decided left (passed (is_crowded album next.recordings) AlbumFull (unless lacks Ids step) decided room sums) in
+    ap (λ (v : Verdict). (verdict_reply v).status) of_fresh.2
     ∙ ap (λ (v : Verdict). (verdict_reply (keeping token mark v)).status) made.2

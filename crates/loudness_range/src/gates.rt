@@ -2,11 +2,8 @@
 ghost use Rattle.std.specs.Prelude.{◌≡◌, ◌^◌, ◌<◌, ◌≤◌, ℕ, All, filter, length, sum, IfOk};
 ghost use Rattle.sound_model.specs.Ranges.{is_window_audible, is_window_near, gated_windows};
 
-use lib_base::Memory;
+use lib_base::{FULL_POWER, Memory};
 use std::alloc::Global;
-
-/// 10^7 times the square of full scale, 2^54, times 10^0.0691.
-pub(crate) const FULL_POWER: u128 = 11_724_653 << 54;
 
 /// The windows that pass both gates: of those from -70 LUFS on, those from their mean less 20 LU on.
 pub(crate) fn gated_windows(alloc: Global, windows: &[u128]) -> Result<Vec<u128>, Memory>

@@ -2,7 +2,7 @@
 ghost use Rattle.std.specs.Prelude.{◌≡◌, ◌≤◌, ◌<◌, ◌+◌, ◌*◌, ◌^◌, ◌&&◌, ℕ, List, filter, length, sum, nat_le, true, All};
 ghost use Rattle.sound_model.specs.Ranges.{is_window_audible, is_window_near};
 
-use crate::gates::FULL_POWER;
+use lib_base::FULL_POWER;
 
 /// 125 * 10^7: an energy times this reaches 180 times `FULL_POWER` from -70 LUFS on.
 const SCALE: u128 = 1_250_000_000;

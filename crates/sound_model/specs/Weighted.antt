@@ -2,6 +2,7 @@
 -- The coefficients are those of the standard; the fixed point and its clamps are the library's own.
 use Rattle.std.specs.Prelude.{◌-◌, ◌*◌, ◌^◌, ℕ, ℤ, pos, neg_ℤ, ◌+ℤ◌, ◌-ℤ◌, ◌*ℤ◌, List, [], ◌∷◌, map, reverse, slice_index_or}
 use Rattle.std.specs.Int.{int_min, int_max, int_div_euclid}
+use Rattle.lib_base.specs.Sounds.{scaled}
 
 -- the coefficients of a section, in units of 10^-14
 pub record Section : Type 0 where
@@ -55,7 +56,7 @@ outputs s (x ∷ xs) = with_next s x xs (outputs s xs)
 
 -- a sample as it enters, in units of 2^-39 of full scale
 unfoldable pub entering : ℕ → ℤ → ℤ
-entering depth sample = sample *ℤ pos (2 ^ (24 - depth) * 2 ^ 16)
+entering depth sample = scaled depth sample *ℤ pos (2 ^ 16)
 
 -- an output as it leaves, in units of 2^-27 of full scale
 unfoldable pub leaving : ℤ → ℤ

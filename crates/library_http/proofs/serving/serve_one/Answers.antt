@@ -1,0 +1,53 @@
+use Rattle.std.proofs.Common.{refl, ap, arith}
+use Rattle.library_http.specs.World.{world}
+use Rattle.library_http.proofs.Turning.{BeginsWith-within, TurnDoes-ended, TurnDoes-fault, TurnDoes-framed, TurnDoes-refused, TurnDoes-unread}
+use Rattle.library_http.proofs.serving.serve_one.Goals as goal
+
+pub serve_request-requires-heading : goal.serve_request-requires-heading
+serve_request-requires-heading g c =
+    let reads = rw c.in-Framed.is at c.next_request.ensures in (reads.found.head, reads.found.lies)
+
+pub serve_request-requires-within : goal.serve_request-requires-within
+serve_request-requires-within g c =
+    let reads = rw c.in-Framed.is at c.next_request.ensures in
+    BeginsWith-within _ c.next_request.new.inbox c.in-Framed.request reads.found
+
+pub returns-in-Framed-clause-turn : goal.returns-in-Framed-clause-turn
+returns-in-Framed-clause-turn g c = λ s keeps.
+    let reads = rw c.in-Framed.is at c.next_request.ensures in
+    TurnDoes-framed c.serve_request.result s c.args.inbox.now c.next_request.new.inbox c.serve_request.new.inbox c.in-Framed.request
+    (g.S.Source.shown c.args.source.now) (g.S.Source.shown c.next_request.new.source)
+    (g.K.Sink.shown c.args.sink.now) (g.K.Sink.shown c.serve_request.new.sink)
+    (world c.args.library.now (g.D.Keeper.shown c.args.keeper.now) (g.V.Vault.shown c.args.vault.now))
+    (world c.serve_request.new.library (g.D.Keeper.shown c.serve_request.new.keeper) (g.V.Vault.shown c.serve_request.new.vault))
+    keeps reads c.serve_request.ensures.passed (c.serve_request.ensures.turn s keeps reads.found.head reads.found.lies)
+
+pub returns-in-Refused-clause-turn : goal.returns-in-Refused-clause-turn
+returns-in-Refused-clause-turn g c = λ s keeps.
+    let reads = rw c.in-Refused.is at c.next_request.ensures in
+    TurnDoes-refused s c.args.inbox.now c.next_request.new.inbox c.next_request.new.inbox c.in-Refused.cause c.end_by.result
+    (g.S.Source.shown c.args.source.now) (g.S.Source.shown c.next_request.new.source)
+    (g.K.Sink.shown c.args.sink.now) (g.K.Sink.shown c.end_by.new.sink)
+    (world c.args.library.now (g.D.Keeper.shown c.args.keeper.now) (g.V.Vault.shown c.args.vault.now))
+    keeps reads c.end_by.ensures.refuses
+
+pub returns-in-Ended-clause-turn : goal.returns-in-Ended-clause-turn
+returns-in-Ended-clause-turn g c = λ s keeps.
+    let reads = rw c.in-Ended.is at c.next_request.ensures in
+    TurnDoes-ended s c.args.inbox.now c.next_request.new.inbox c.next_request.new.inbox
+    (g.S.Source.shown c.args.source.now) (g.S.Source.shown c.next_request.new.source) (g.K.Sink.shown c.args.sink.now)
+    (world c.args.library.now (g.D.Keeper.shown c.args.keeper.now) (g.V.Vault.shown c.args.vault.now)) keeps reads
+
+pub returns-in-Fault-clause-turn : goal.returns-in-Fault-clause-turn
+returns-in-Fault-clause-turn g c = λ s keeps.
+    let reads = rw c.in-Fault.is at c.next_request.ensures in
+    TurnDoes-fault s c.args.inbox.now c.next_request.new.inbox c.next_request.new.inbox
+    (g.S.Source.shown c.args.source.now) (g.S.Source.shown c.next_request.new.source) (g.K.Sink.shown c.args.sink.now)
+    (world c.args.library.now (g.D.Keeper.shown c.args.keeper.now) (g.V.Vault.shown c.args.vault.now)) keeps reads
+
+pub returns-in-Memory-clause-turn : goal.returns-in-Memory-clause-turn
+returns-in-Memory-clause-turn g c = λ s keeps.
+    let reads = rw c.in-Memory.is at c.next_request.ensures in
+    TurnDoes-unread s c.args.inbox.now c.next_request.new.inbox c.next_request.new.inbox
+    (g.S.Source.shown c.args.source.now) (g.S.Source.shown c.next_request.new.source) (g.K.Sink.shown c.args.sink.now)
+    (world c.args.library.now (g.D.Keeper.shown c.args.keeper.now) (g.V.Vault.shown c.args.vault.now)) keeps reads
