@@ -2,7 +2,9 @@
 ghost use Rattle.std.specs.Prelude.{◌≡◌, ◌<◌};
 
 use crate::{Album, TrackTally};
-use lib_base::{Energies, GREATEST_ENERGY, MOST_SEGMENTS, Measured, SEGMENT_FRAMES, Steps, Summary};
+use lib_base::{
+    Energies, GREATEST_ENERGY, MOST_SEGMENTS, Measured, SEGMENT_FRAMES, Steps, Summary,
+};
 use std::alloc::Global;
 use std::marker::{Brand, Sync};
 use std::process::Abort;

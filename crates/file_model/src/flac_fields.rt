@@ -30,4 +30,3 @@ pub const TOTAL_AT: usize = 13;
 
 /// Where in STREAMINFO the MD5 stands.
 pub const MD5_AT: usize = 18;
-
