@@ -18,12 +18,12 @@ AreOfChannel energies = All (λ e. e ≤ greatest_of_channel) energies
 abbrev pub AreSegments : List ℕ → Type 0
 AreSegments energies = All (λ e. e ≤ GREATEST_ENERGY) energies
 
--- energies of blocks and no more than 2^25 of them
+-- energies of blocks, and no more than 2^25 of them
 pub record AreBlocks (blocks : List ℕ) : Type 0 where
   pub within : All (λ z. z ≤ BLOCK_SEGMENTS * GREATEST_ENERGY) blocks
   pub few : length blocks ≤ 2 ^ 25
 
--- energies of windows and no more than 2^25 of them
+-- energies of windows, and no more than 2^25 of them
 pub record AreWindows (windows : List ℕ) : Type 0 where
   pub within : All (λ z. z ≤ WINDOW_SEGMENTS * GREATEST_ENERGY) windows
   pub few : length windows ≤ 2 ^ 25

@@ -66,7 +66,7 @@ fn both(one: Tally, other: Tally) -> Tally
     }
 }
 
-/// Tallies the blocks above -70 LUFS.
+/// Tallies the blocks above the absolute threshold, -70 LUFS.
 fn audible_of(blocks: &[u128]) -> Tally
     requires { AreBlocks blocks.now }
     ensures tally { IsTallyOf (filter is_audible blocks.now) result.count result.sum }
@@ -83,7 +83,8 @@ fn audible_of(blocks: &[u128]) -> Tally
     Tally { count, sum }
 }
 
-/// Tallies those of them that are above the mean of what `audible` counts, less 10 LU.
+/// Tallies those of them that are above the relative threshold, the mean of what `audible` counts
+/// less 10 LU.
 fn near_of(blocks: &[u128], audible: Tally) -> Tally
     requires { AreBlocks blocks.now }
     ensures tally { (counted : List ℕ) → IsTallyOf counted audible.count audible.sum

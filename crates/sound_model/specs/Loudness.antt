@@ -24,15 +24,15 @@ pub record IsWindowLevel (energy : ℕ) (loudness : ℤ) : Type 0 where
   pub of_ratio : IsLevel (25 * energy) (36 * FULL_POWER) level
   pub rounded : loudness ≡ hundredths level
 
--- a block is above -70 LUFS, 10^-7 of the power for 0 LUFS
+-- a block is above the absolute threshold, -70 LUFS: 10^-7 of the power for 0 LUFS
 unfoldable pub is_audible : ℕ → Bool
 is_audible energy = nat_lt (24 * FULL_POWER) (125 * 10 ^ 7 * energy)
 
--- a block is above the mean of these, less 10 LU
+-- a block is above the relative threshold, the mean of these less 10 LU
 unfoldable pub is_near : List ℕ → ℕ → Bool
 is_near blocks energy = nat_lt (sum blocks) (10 * length blocks * energy)
 
--- the blocks that pass both gates: of those above -70 LUFS, those above their mean less 10 LU
+-- the blocks that pass both gates: of those above the absolute threshold, those above the relative one, their mean less 10 LU
 abbrev pub gated : List ℕ → List ℕ
 gated blocks = let audible = filter is_audible blocks in filter (is_near audible) audible
 

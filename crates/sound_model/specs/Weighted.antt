@@ -12,7 +12,7 @@ pub record Section : Type 0 where
   pub a1 : ℤ
   pub a2 : ℤ
 
--- the first section, a high shelf (BS.1770-4 table 1)
+-- the first section, the pre-filter: a high shelf (BS.1770-4 table 1)
 abbrev pub shelf : Section
 shelf = record {
   b0 = pos 153512485958697;
@@ -22,7 +22,7 @@ shelf = record {
   a2 = pos 73248077421585;
 }
 
--- the second section, a high pass (BS.1770-4 table 2)
+-- the second section, the RLB filter: a high pass (BS.1770-4 table 2)
 abbrev pub high_pass : Section
 high_pass = record {
   b0 = pos 100000000000000;
