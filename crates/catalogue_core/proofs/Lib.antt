@@ -2,6 +2,8 @@ pub mod AcceptedBounds
 pub mod Asked
 pub mod Closings
 pub mod Decided
+pub mod Exits
+pub mod Found
 pub mod Imports
 pub mod Loading
 pub mod NewAlbums

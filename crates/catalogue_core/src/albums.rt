@@ -1,5 +1,5 @@
 //! New albums, and albums that are removed.
-ghost use Rattle.std.specs.Prelude.{◌≡◌, false, [], None, IfOk};
+ghost use Rattle.std.specs.Prelude.{◌≡◌, ◌∷◌, [], false, nat_le, None, IfOk};
 ghost use Rattle.keeper_store.specs.declared.contents.Change.TheVariants as change;
 ghost use Rattle.library_model.specs.declared.messages.Command.TheVariants as wanted;
 ghost use Rattle.library_model.specs.Batches.{new_album_changes, new_album_row};
@@ -7,8 +7,6 @@ ghost use Rattle.library_model.specs.Bodies.{album_row_reply, removed_reply};
 ghost use Rattle.library_model.specs.Machine.{no_levels};
 ghost use Rattle.library_model.specs.State.{numbers_end};
 ghost use Rattle.catalogue_rows.specs.Making.{IsEmptyAlbum};
-ghost use Rattle.catalogue_core.specs.Kept.{Holds};
-ghost use Rattle.catalogue_core.specs.Looking.{IsCountOf};
 ghost use Rattle.catalogue_core.specs.Plans.{DecidesOn, IsPlan, Leaves};
 
 use crate::Library;
