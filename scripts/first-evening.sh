@@ -183,7 +183,8 @@ else
     check 'bytes of an MP3' "$(told POST /recordings --data-binary 'ID3')" '{"error":"format","place":0,"rule":"K1"} 422'
 fi
 [ ! -f "$work/other rate.wav" ] || check 'a wave at 44,100 Hz' \
-    "$(told POST /recordings --data-binary "@$work/other rate.wav")" '{"error":"format","place":24,"rule":"V10"} 422'
+    "$(told POST /recordings --data-binary "@$work/other rate.wav")" \
+    '{"error":"format","place":24,"rule":"V10"} 422'
 if [ -f "$work/cut.flac" ]; then
     check 'a cut FLAC file' "$(told POST /recordings --data-binary "@$work/cut.flac" | sed 's/"place":[0-9]*,//')" \
         '{"error":"format","rule":"F29"} 422'

@@ -9,6 +9,7 @@ change is there, and a repeat settles the one that was lost.
 usage: scripts/kill-and-restart.py [ROUNDS [SEED]]      (200 rounds; port 8330 must be free)
 LOUDLIB_PROGRAM names another program than ./loudlib.
 """
+import atexit
 import hashlib
 import os
 import random
@@ -88,7 +89,8 @@ class Server:
                                         stdin=subprocess.DEVNULL, stdout=subprocess.DEVNULL, stderr=self.log)
 
     def kill(self):
-        self.process.kill()
+        if self.process:
+            self.process.kill()
 
     def end(self):
         """After a kill: waits for its end, so that the next one finds the port and the database."""
@@ -104,7 +106,7 @@ class Server:
         self.connection = None
 
     def connect(self):
-        for _ in range(600):
+        for _ in range(6000):
             try:
                 return socket.create_connection(("127.0.0.1", PORT), 60)
             except OSError:
@@ -187,17 +189,22 @@ class Trial:
                 self.differs(f"take {r.take}", found, r.digest)
 
     def round(self):
-        """A start, a comparison and changes, until a kill at a random moment."""
+        """A start, a comparison and changes, until a kill at a random moment: of the start in one of four rounds, else
+        of the changes."""
         self.server.start()
         timer = threading.Timer(self.random.choice([0.02, 0.2, 1, 3]) * self.random.random() + 0.01, self.server.kill)
-        timer.start()
+        at_once = self.random.random() < 0.25
         try:
+            if at_once:
+                timer.start()
             self.compare()
+            if not at_once:
+                timer.start()
             while True:
                 self.step()
         except Lost:
             pass
-        timer.join()
+        timer.cancel()
         self.server.end()
 
 
@@ -207,6 +214,7 @@ def main():
     folder = tempfile.mkdtemp(prefix="kill-and-restart-")
     print(f"{rounds} rounds, seed {seed}, in {folder}", flush=True)
     trial = Trial(Server(folder), seed)
+    atexit.register(trial.server.kill)
     for number in range(1, rounds + 1):
         trial.round()
         if number % 20 == 0:
