@@ -3,7 +3,9 @@ pub mod Asked
 pub mod Closings
 pub mod Decided
 pub mod Exits
+pub mod Files
 pub mod Found
+pub mod Freshness
 pub mod Imports
 pub mod Loading
 pub mod NewAlbums
