@@ -220,7 +220,20 @@ swept_left (Some take) v0 v1 (inr rose, others) later =
     (λ old new kept. let small = held_small (new take) in RoseBy-one (count_held new (take ∷ [])) v0.faults v1.faults (omega (arith, small)) rose)
     v0.blobs v1.blobs others
 
--- no recording has a take that is released
+-- of two tests that do not hold together neither holds
+or_left : (a b : Bool) → (a || b) ≡ false → a ≡ false
+or_left false b none = refl
+or_left true b none = none
+
+or_right : (a b : Bool) → (a || b) ≡ false → b ≡ false
+or_right false b none = none
+or_right true b none = absurd (true≢false none)
+
+-- numbers that test as apart are
+tested_apart : (m n : ℕ) → (m == n) ≡ false → m ≢ n
+tested_apart m n is same = grind (arith, nat_tests)
+
+-- files stay where no recording has a take that is released
 files_behind : (old new : Blobs) (recordings : List Recording) (released : List ℕ)
     → AllByRecursion (λ take. has_take take recordings ≡ false) released
     → ((key : ℕ) → AllByRecursion (λ take. key ≢ take) released → new key ≡ old key)
@@ -229,16 +242,11 @@ files_behind old new [] released gone kept holds = tt
 files_behind old new (r ∷ recordings) released gone kept holds =
     let apart : AllByRecursion (λ take. r.take ≢ take) released =
     AllByRecursion-weaker (λ take. has_take take (r ∷ recordings) ≡ false) (λ take. r.take ≢ take) released
-    (λ take none same. own r.take take (has_take take recordings) none same) gone in
+    (λ take none. tested_apart r.take take (or_left (r.take == take) (has_take take recordings) none)) gone in
     let rest : AllByRecursion (λ take. has_take take recordings ≡ false) released =
     AllByRecursion-weaker (λ take. has_take take (r ∷ recordings) ≡ false) (λ take. has_take take recordings ≡ false) released
-    (λ take none. behind (r.take == take) (has_take take recordings) none) gone in
+    (λ take none. or_right (r.take == take) (has_take take recordings) none) gone in
     (kept r.take apart ∙ holds.0, files_behind old new recordings released rest kept holds.1)
-  where
-    own : (m n : ℕ) (b : Bool) → ((m == n) || b) ≡ false → m ≢ n
-    own m n b none same = grind (arith, nat_tests)
-    behind : (a b : Bool) → (a || b) ≡ false → b ≡ false
-    behind a b none = cc none
 
 -- ---- changes that were staged
 

@@ -70,7 +70,7 @@ RoseBy-one a x y one rose = omega arith
 
 -- Of two lists of keys as many hold something as of each.
 pub count_held-append : (blobs : Blobs) (xs ys : List ℕ) → count_held blobs (xs ++ ys) ≡ count_held blobs xs + count_held blobs ys
-count_held-append blobs [] ys = refl
+count_held-append blobs [] ys = omega arith
 count_held-append blobs (x ∷ xs) ys =
     let rest = count_held-append blobs xs ys in
     omega (arith, rest)

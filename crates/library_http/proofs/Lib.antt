@@ -5,5 +5,5 @@ mod Goings
 mod Making
 mod Releases
 mod Replying
-mod Serving
+mod Served
 mod Turning

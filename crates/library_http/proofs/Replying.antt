@@ -45,7 +45,7 @@ Acts-asked s q about answered given w keeps asks is answers =
         → Acts s (asked_of q) (reply_given (result_ok answered)) w w
     by_case (Ok reply) answers =
         Acts-decided s (asked_of q) reply w keeps (asked_of-below q)
-        (subst (λ (a : Asked). Decides s a (stays reply)) asks (ap stays (sym answers)))
+        (subst (λ (a : Asked). Decides s a (stays reply)) asks (ap stays answers))
     by_case (Err e) answers = Acts-unread s (asked_of q) w keeps
 
 -- A change of a fresh token that breaks its form.

@@ -21,7 +21,7 @@ use Rattle.library_http.specs.declared.serving.Turn.TheVariants.{Answered, Close
 use Rattle.library_http.specs.Sessions.{Serves}
 use Rattle.library_http.specs.Turns.{Finds, RefusesBy, TurnDoes, TurnsOn}
 use Rattle.library_http.specs.World.{World}
-use Rattle.library_http.proofs.Serving.{Serves-broke, Serves-closed, Serves-ended, Serves-fault, Serves-fault_behind, Serves-refused, Serves-turns, Serves-unread}
+use Rattle.library_http.proofs.Served.{Serves-broke, Serves-closed, Serves-ended, Serves-fault, Serves-fault_behind, Serves-refused, Serves-turns, Serves-unread}
 
 -- a body that was framed is within the limit
 pub BeginsWith-within : (bytes inbox : List ℕ) (request : Request) → BeginsWith bytes inbox request → IsWithinLimit request.body
@@ -29,7 +29,7 @@ BeginsWith-within bytes inbox request begins =
     Frames-within (bytes ++ []) (framed begins.head request) (behind inbox request ++ []) (begins.frames [])
 
 -- what was found where a request was read
-found : (held inbox held_now : List ℕ) (request : Request) (source0 source1 : SourceView)
+abbrev found : (held inbox held_now : List ℕ) (request : Request) (source0 source1 : SourceView)
     → (reads : ReadsNext source0 source1 held inbox (next.Framed request)) → held_now ≡ behind inbox request → Finds held held_now source0 source1
 found held inbox held_now request source0 source1 reads passed = record {
   taken = reads.taken;
@@ -86,7 +86,7 @@ Serves-held s held source sink w keeps some =
 
 -- None are held, and one byte was looked for.
 pub Serves-looked : {E : Type 0} (s : State) (held into : List ℕ) (n : ℕ) (source0 source1 : SourceView) (sink : SinkView) (w : World)
-    → Keeps w.library s → held ≡ [] → Reads {E} source0 source1 into (Ok n) → n ≢ 0 → Serves held 0 s how.Turns 0 source0 source1 sink sink w w
+    → Keeps w.library s → held ≡ [] → Reads {E = E} source0 source1 into (Ok n) → n ≢ 0 → Serves held 0 s how.Turns 0 source0 source1 sink sink w w
 Serves-looked {E} s held into n source0 source1 sink w keeps empty reads some =
     Serves-turns s held (take n into) source0 source1 sink w keeps reads.content.0 (λ none. taken_some (length-of none))
   where
@@ -96,13 +96,13 @@ Serves-looked {E} s held into n source0 source1 sink w keeps empty reads some =
     taken_some none = some (sym (length-take-le n into reads.within) ∙ none)
 
 pub Serves-looked_end : {E : Type 0} (s : State) (held into : List ℕ) (source0 source1 : SourceView) (sink : SinkView) (w : World)
-    → Keeps w.library s → held ≡ [] → Reads {E} source0 source1 into (Ok 0) → 0 < length into
+    → Keeps w.library s → held ≡ [] → Reads {E = E} source0 source1 into (Ok 0) → 0 < length into
     → Serves held 0 s how.Ended 0 source0 source1 sink sink w w
 Serves-looked_end {E} s held into source0 source1 sink w keeps empty reads some =
     Serves-ended s 0 held [] source0 source1 sink w keeps reads.content.0 (append-nil held ∙ empty) (reads.content.1 refl some)
 
 pub Serves-looked_fault : {E : Type 0} (s : State) (held into : List ℕ) (e : E) (source0 source1 : SourceView) (sink : SinkView) (w : World)
-    → Keeps w.library s → held ≡ [] → Reads {E} source0 source1 into (Err e) → Serves held 0 s how.SourceFault 0 source0 source1 sink sink w w
+    → Keeps w.library s → held ≡ [] → Reads {E = E} source0 source1 into (Err e) → Serves held 0 s how.SourceFault 0 source0 source1 sink sink w w
 Serves-looked_fault {E} s held into e source0 source1 sink w keeps empty reads =
     Serves-fault_behind s held [] source0 source1 sink w keeps
     (Consumes-kept source0.left source0.left source1.left [] (Consumes-nil source0.left) reads.content) (append-nil held ∙ empty)

@@ -51,8 +51,14 @@ pub struct SessionEnd {
     pub answered: u32,
 }
 
+/// The end of a session that found no memory to read into.
+const UNREAD: SessionEnd = SessionEnd {
+    how: How::Memory,
+    answered: 0,
+};
+
 /// What one turn of serving does.
-#[derive(Clone, Copy, Debug, PartialEq, Eq)]
+#[derive(Clone, Copy, Debug)]
 enum Turn {
     /// A request was answered whole.
     Answered,
@@ -90,26 +96,26 @@ pub fn session<R: Threads + Sync, S: Source, K: Sink, D: Keeper, V: Vault>(
         (world library.new (D.shown keeper.new) (V.shown vault.new)) }
     ensures few { result.answered ≤ requests }
 {
-    match (Paths::new(alloc), Inbox::new(alloc)) {
-        (Ok(paths), Ok(mut inbox)) => serve::<R, S, K, D, V, Brand>(
-            rt,
-            alloc,
-            &paths,
-            library,
-            keeper,
-            vault,
-            &mut inbox,
-            source,
-            sink,
-            workers,
-            requests,
-            Blank::new(1),
-        ),
-        _ => SessionEnd {
-            how: How::Memory,
-            answered: 0,
-        },
-    }
+    let Ok(paths) = Paths::new(alloc) else {
+        return UNREAD;
+    };
+    let Ok(mut inbox) = Inbox::new(alloc) else {
+        return UNREAD;
+    };
+    serve::<R, S, K, D, V, Brand>(
+        rt,
+        alloc,
+        &paths,
+        library,
+        keeper,
+        vault,
+        &mut inbox,
+        source,
+        sink,
+        workers,
+        requests,
+        Blank::new(1),
+    )
 }
 
 /// Answers requests, one after another. Its counter of steps is of the blank's ledger.

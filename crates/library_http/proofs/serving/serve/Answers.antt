@@ -1,10 +1,8 @@
-use Rattle.std.proofs.Common.{◌≡◌, ◌<◌, ◌+◌, ◌-◌, ℕ, suc, refl, sym, subst, List, arith}
-use Rattle.library_model.specs.State.{State}
-use Rattle.catalogue_core.specs.Kept.{Keeps}
+use Rattle.std.proofs.Common.{◌≡◌, ◌<◌, ◌≤◌, ◌+◌, ◌-◌, ℕ, suc, [], List, refl, sym, subst, rules, arith}
 use Rattle.library_http.specs.declared.serving.How.TheVariants as how
 use Rattle.library_http.specs.Turns.{SoFar}
 use Rattle.library_http.specs.World.{world}
-use Rattle.library_http.proofs.Serving.{SoFar-ends, SoFar-none, SoFar-turn}
+use Rattle.library_http.proofs.Served.{SoFar-ends, SoFar-none, SoFar-turn}
 use Rattle.library_http.proofs.serving.serve.Goals as goal
 
 pub requests-init : goal.requests-init
@@ -24,7 +22,7 @@ requests-init g c = (
 
 pub requests-preserved : goal.requests-preserved
 requests-preserved g c =
-    let below = c.requests.below in
+    let below : c.requests.answered < c.args.requests = search rules in
     let later = c.requests.invariant.4 in
     let turn = c.in-Answered.ensures in (
       omega (arith, below),
@@ -47,7 +45,7 @@ requests-preserved g c =
 
 pub returns-in-Closed-clause-session : goal.returns-in-Closed-clause-session
 returns-in-Closed-clause-session g c = λ start keeps.
-    let below = c.requests.below in
+    let below : c.requests.answered < c.args.requests = search rules in
     let more = c.args.requests - c.requests.answered - 1 in
     let so_far = c.requests.invariant.1 start keeps (suc more) (omega (arith, below)) in
     SoFar-ends c.args.requests (suc more) start c.requests.answered 1 (c.requests.answered + 1) how.Ended c.requests.inbox
@@ -60,7 +58,7 @@ returns-in-Closed-clause-session g c = λ start keeps.
 
 pub returns-in-Stopped-clause-session : goal.returns-in-Stopped-clause-session
 returns-in-Stopped-clause-session g c = λ start keeps.
-    let below = c.requests.below in
+    let below : c.requests.answered < c.args.requests = search rules in
     let more = c.args.requests - c.requests.answered - 1 in
     let so_far = c.requests.invariant.1 start keeps (suc more) (omega (arith, below)) in
     SoFar-ends c.args.requests (suc more) start c.requests.answered 0 c.requests.answered c.in-Stopped.how c.requests.inbox
@@ -73,7 +71,7 @@ returns-in-Stopped-clause-session g c = λ start keeps.
 
 pub returns-clause-session : goal.returns-clause-session
 returns-clause-session g c = λ start keeps.
-    let reached = c.requests.reached in
+    let reached : c.args.requests ≤ c.requests.answered = search rules in
     let so_far = c.requests.invariant.1 start keeps 0 (omega (arith, reached)) in
     let sink = g.K.Sink.shown c.requests.sink in
     let w = world c.requests.library (g.D.Keeper.shown c.requests.keeper) (g.V.Vault.shown c.requests.vault) in

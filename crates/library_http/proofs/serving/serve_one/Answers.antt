@@ -1,16 +1,6 @@
-use Rattle.std.proofs.Common.{refl, ap, arith}
 use Rattle.library_http.specs.World.{world}
-use Rattle.library_http.proofs.Turning.{BeginsWith-within, TurnDoes-ended, TurnDoes-fault, TurnDoes-framed, TurnDoes-refused, TurnDoes-unread}
+use Rattle.library_http.proofs.Turning.{TurnDoes-ended, TurnDoes-fault, TurnDoes-framed, TurnDoes-refused, TurnDoes-unread}
 use Rattle.library_http.proofs.serving.serve_one.Goals as goal
-
-pub serve_request-requires-heading : goal.serve_request-requires-heading
-serve_request-requires-heading g c =
-    let reads = rw c.in-Framed.is at c.next_request.ensures in (reads.found.head, reads.found.lies)
-
-pub serve_request-requires-within : goal.serve_request-requires-within
-serve_request-requires-within g c =
-    let reads = rw c.in-Framed.is at c.next_request.ensures in
-    BeginsWith-within _ c.next_request.new.inbox c.in-Framed.request reads.found
 
 pub returns-in-Framed-clause-turn : goal.returns-in-Framed-clause-turn
 returns-in-Framed-clause-turn g c = λ s keeps.

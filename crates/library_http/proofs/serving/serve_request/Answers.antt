@@ -4,16 +4,12 @@ use Rattle.http_inbox.specs.Heads.{IsHeadingOf}
 use Rattle.http_inbox.specs.Nexts.{framed}
 use Rattle.http_routes.specs.Routes.{methods_if}
 use Rattle.http_model.specs.Exchanges.{spelled_to}
+use Rattle.http_model.specs.Requests.{closes}
 use Rattle.http_model.specs.Spelling.{spelled}
 use Rattle.library_http.specs.Turns.{allowed_in, reply_given}
 use Rattle.library_http.specs.World.{world}
 use Rattle.library_http.proofs.Replying.{TurnsOn-written}
 use Rattle.library_http.proofs.serving.serve_request.Goals as goal
-
-pub answer-given-requires-heading : goal.answer-given-requires-heading
-answer-given-requires-heading g c =
-    let lies = c.requires.heading in
-    (lies.0, subst (λ (bytes : List ℕ). IsHeadingOf bytes c.args.request.heading lies.0) (sym c.bytes.ensures.value) lies.1)
 
 pub returns-clause-turn : goal.returns-clause-turn
 returns-clause-turn g c = λ s keeps head lies.
@@ -24,7 +20,7 @@ returns-clause-turn g c = λ s keeps head lies.
     let spells : spelled c.args.request.heading.closes (allowed_in given (methods_if c.answer-given.result.allows)) (reply_given given)
         ≡ spelled_to q (reply_given given) =
     ap (λ (b : Bool). spelled b (allowed_in given (methods_if c.answer-given.result.allows)) (reply_given given)) shuts
-    ∙ ap (λ (methods : List (List ℕ)). spelled _ methods (reply_given given)) (c.answer-given.ensures.allows q there refl) in
+    ∙ ap (λ (methods : List (List ℕ)). spelled (closes head) methods (reply_given given)) (c.answer-given.ensures.allows q there refl) in
     TurnsOn-written s q (reply_given given) c.args.request.heading.closes c.write_given.result c.turn_of.result
     (g.K.Sink.shown c.args.sink.now) (g.K.Sink.shown c.write_given.new.sink)
     (world c.args.library.now (g.D.Keeper.shown c.args.keeper.now) (g.V.Vault.shown c.args.vault.now))

@@ -83,8 +83,11 @@ pub SoFar-none : (most : ℕ) (start : State) (source : SourceView) (sink : Sink
 SoFar-none most start source sink w keeps = record {
   state = start;
   keeps = keeps;
-  goes = λ end count source_end sink_end at_end serves. serves;
-}
+  goes = λ end count source_end sink_end at_end serves.
+      subst (λ (n : ℕ). Session most start end n source source_end sink sink_end w at_end) (counted count) serves;
+} where
+  counted : (count : ℕ) → count ≡ 0 + count
+  counted count = omega arith
 
 -- One turn more.
 pub SoFar-turn : (most more : ℕ) (start : State) (answered : ℕ) (held held_now : List ℕ) (source0 source1 source2 : SourceView)
