@@ -49,10 +49,10 @@ set_all P Q album (k ∷ ks) (suc place) kept rise at follows here all =
       follows k (at.before zero k (omega arith)) all.0,
       set_all P Q album ks place kept rise.1
           (record {
-        inside = omega (arith, inside);
-        same = at.same;
-        before = λ i d less. at.before (suc i) d (omega (arith, less));
-      }) follows here all.1,
+            inside = omega (arith, inside);
+            same = at.same;
+            before = λ i d less. at.before (suc i) d (omega (arith, less));
+          }) follows here all.1,
     )
 
 -- rows that are as they were

@@ -290,7 +290,7 @@ Holds-back rows next t id place kept now holds at here same_row same members own
         ≡ album_of t (put recording_less kept.row t.recordings) other
     over other =
         subst (λ (n : ℕ). with_over kept.row.album n (measured_in t kept.row) (album_of t (without recording_id n t.recordings)) other
-            ≡ album_of t (put recording_less kept.row t.recordings) other) number
+        ≡ album_of t (put recording_less kept.row t.recordings) other) number
         (over_is_put t kept.row t.recordings other rise)
 
     mine : IsBeside t now

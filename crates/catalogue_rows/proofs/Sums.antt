@@ -87,7 +87,7 @@ few_put t row rows rise few = cases row.album refl few
         let here : (album == album) ≡ true = grind (arith, nat_tests) in
         let inside : is_in_album album row.album ≡ true = rw is here in
         let has : album_of t (put recording_less row rows) album
-            ≡ with_recording row.id (measured_in t row) (album_of t Left album) =
+        ≡ with_recording row.id (measured_in t row) (album_of t Left album) =
         album_put t row rows album rise ∙ rw inside refl in
         let long = sym (long_album t (put recording_less row rows) album) ∙ ap (λ (l : List (ℕ × Measured)). length l) has
         ∙ length-placed id_of (row.id, measured_in t row) (album_of t Left album) in
@@ -135,7 +135,7 @@ pub sum_comes : (t next : Tables) (album id : ℕ) (comes : Comes album id t nex
     → with_recording id (measured_in next comes.row) (without_recording id (album_of t t.recordings album)) ≡ album_of next next.recordings album
 sum_comes t next album id comes rise =
     subst (λ (n : ℕ). with_recording n (measured_in next comes.row) (without_recording n (album_of t t.recordings album))
-        ≡ album_of next next.recordings album) comes.same
+    ≡ album_of next next.recordings album) comes.same
     (sum_put t next comes.row album rise comes.puts comes.inside)
 
 -- told of what the album has without it

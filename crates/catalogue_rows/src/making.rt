@@ -125,10 +125,7 @@ impl CatalogueRows {
     {
         let own = self.lift(row.id);
         let beside = place_in(&mut self.albums, row.album, row.id, tally.or(own));
-        put_row(
-            &mut self.recordings,
-            KeptRecording { row, tally: beside },
-        );
+        put_row(&mut self.recordings, KeptRecording { row, tally: beside });
     }
 
     /// Takes out a recording, and its tally. Where there is none of the id, nothing changes.

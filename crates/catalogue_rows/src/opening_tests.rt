@@ -4,9 +4,7 @@ ghost use Rattle.catalogue_rows.specs.Room.{puts_one};
 
 use crate::{CatalogueRows, Fresh, NotOpened, open_rows};
 use album_merge::Album;
-use keeper_store::{
-    AlbumRow, Change, RecordingRow, ReplyRow, Rows, SegmentRow, Tables, bytes_of,
-};
+use keeper_store::{AlbumRow, Change, RecordingRow, ReplyRow, Rows, SegmentRow, Tables, bytes_of};
 use kept_replies::{Seen, Token};
 use lib_base::{Bytes, Kind, Memory, Steps, Summary, Text};
 use library_model::{BadRow, RowRule, RowTable};
@@ -152,12 +150,7 @@ fn first_bad_row_is_told(rt: HostRuntime) -> Result<(), Fail> {
 }
 
 /// Makes one change that puts no recording.
-fn make(
-    alloc: Global,
-    rows: &mut CatalogueRows,
-    change: Change,
-    fresh: Fresh,
-) -> Result<(), Memory>
+fn make(alloc: Global, rows: &mut CatalogueRows, change: Change, fresh: Fresh) -> Result<(), Memory>
     requires { (id : ℕ) → puts_one change id ≡ 0 }
 {
     let mut changes = Vec::new(alloc);
@@ -176,9 +169,24 @@ fn opened_rows_are_found(rt: HostRuntime) -> Result<(), Fail> {
         tally: None,
         album: Some(Album::new(alloc)?),
     };
-    make(alloc, &mut rows, Change::PutAlbum(album(alloc, 3, 0, 0)), fresh)?;
-    make(alloc, &mut rows, Change::PutReply(reply(alloc, "a", 200)?), Fresh::none())?;
-    make(alloc, &mut rows, Change::DropRecording { id: 7 }, Fresh::none())?;
+    make(
+        alloc,
+        &mut rows,
+        Change::PutAlbum(album(alloc, 3, 0, 0)),
+        fresh,
+    )?;
+    make(
+        alloc,
+        &mut rows,
+        Change::PutReply(reply(alloc, "a", 200)?),
+        Fresh::none(),
+    )?;
+    make(
+        alloc,
+        &mut rows,
+        Change::DropRecording { id: 7 },
+        Fresh::none(),
+    )?;
     make(alloc, &mut rows, Change::DropAlbum { id: 5 }, Fresh::none())?;
     let next = rows.next_numbers();
     assert_eq!(rt; (next.album, next.recording, next.take), (6, 8, 10));

@@ -44,10 +44,10 @@ returns-in-Some-album-clause-but c t holds =
 pub returns-in-Some-album-clause-room : goal.returns-in-Some-album-clause-room
 returns-in-Some-album-clause-room c = record {
   room = λ more has. record {
-      albums = omega (arith, has.albums, c.take_from.ensures.kept.len, c.take_from.ensures.kept.capacity);
-      recordings = has.recordings;
-      replies = has.replies;
-    };
+    albums = omega (arith, has.albums, c.take_from.ensures.kept.len, c.take_from.ensures.kept.capacity);
+    recordings = has.recordings;
+    replies = has.replies;
+  };
   places = λ more has. c.take_from.ensures.places more has;
 }
 
@@ -57,8 +57,7 @@ returns-in-Some-album-clause-home c =
     c.in-Some.ensures.there in
     let kept = c.index.result.now in
     IfSome_then c.take_from.result c.take_from.ensures.place
-    (λ tally place more has.
-    (
+    (λ tally place more has. (
       c.take_from.ensures.places more has,
       home_of c.args.self.now.recordings.items c.take_from.new.albums.items c.args.id kept.row more
           (only_at c.args.self.now.recordings.items c.args.id c.in-Some.place kept c.args.self.now.recordings_ascend at c.index.ensures)
@@ -131,8 +130,7 @@ returns-in-None-clause-home c =
     let kept = c.index.result.now in
     let one = same_at items c.in-Some.place c.index_mut.result.now kept at.inside c.index_mut.ensures.value c.index.ensures in
     if_some_any _ c.take.result
-    (λ tally more has.
-    (
+    (λ tally more has. (
       has,
       home_of _ c.args.self.now.albums.items c.args.id kept.row more
           (subst (λ (rows : List RecordingRow). AllByRecursion (λ (r : RecordingRow). r.id ≡ c.args.id → r ≡ kept.row) rows)

@@ -50,8 +50,7 @@ returns-clause-kept g c = record {
       (record { albums = omega (arith, mid.albums, kept.len, kept.capacity); recordings = mid.recordings; replies = mid.replies });
   places = λ more has.
       let home = c.in-Some.ensures.home more has in
-      c.bring_back.ensures.places more
-      (
+      c.bring_back.ensures.places more (
         c.try_with-summary.ensures.places more home.0,
         home_through c.lift.new.self.recordings.items c.lift.new.self.albums.items c.try_with-summary.new.albums.items c.args.id more
             c.try_with-summary.ensures.places home.1,
