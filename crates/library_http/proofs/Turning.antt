@@ -93,7 +93,7 @@ Serves-looked {E} s held into n source0 source1 sink w keeps empty reads some =
     length-of : held ++ take n into ≡ [] → length (take n into) ≡ 0
     length-of none = ap length (subst (λ (bytes : List ℕ). bytes ++ take n into ≡ []) empty none)
     taken_some : length (take n into) ≢ 0
-    taken_some none = some (sym (length-take-le n into reads.within) ∙ none)
+    taken_some none = some (sym (length-take-le n into reads.within.0) ∙ none)
 
 pub Serves-looked_end : {E : Type 0} (s : State) (held into : List ℕ) (source0 source1 : SourceView) (sink : SinkView) (w : World)
     → Keeps w.library s → held ≡ [] → Reads {E = E} source0 source1 into (Ok 0) → 0 < length into
