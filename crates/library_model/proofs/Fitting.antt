@@ -1,5 +1,5 @@
 -- When a command would crowd an album, in terms of rows.
-use Rattle.std.proofs.Common.{◌≡◌, ◌≢◌, ◌<◌, ◌==◌, ℕ, Bool, true, false, Option, None, Some, List, [], ◌∷◌, map, refl, sym, ap, ◌∙◌, subst, arith}
+use Rattle.std.proofs.Common.{◌≡◌, ◌==◌, ℕ, true, false, Option, None, Some, List, [], ◌∷◌, map, refl, sym, ap, ◌∙◌, subst, arith}
 use Rattle.std.specs.List.{AllByRecursion, find}
 use Rattle.std.proofs.lemmas.Bool.Decides.{nat_tests}
 use Rattle.lib_base.specs.declared.files.Summary.{Summary}
@@ -13,7 +13,7 @@ use Rattle.library_model.specs.Stands.{IsValid, recording_row, tables_of}
 use Rattle.library_model.specs.State.{Recording, State}
 use Rattle.library_model.proofs.Counting.{crowds_new, crowds_over}
 use Rattle.library_model.proofs.MadeStates.{row_found}
-use Rattle.library_model.proofs.NextTables.{found_has}
+use Rattle.library_model.proofs.Looking.{recording_named}
 
 -- rows below a number have none of it
 below_missing : (next : ℕ) (rows : List RecordingRow) → AllByRecursion (λ (r : RecordingRow). IsGiven next r.id) rows
@@ -39,14 +39,9 @@ pub regroup_crowds : (s : State) (id : ℕ) (album : Option ℕ) (r : Recording)
     → recording_of id s.recordings ≡ Some r → recording_row r ≡ old → album_is_there album (tables_of s).albums ≡ true
     → is_crowded album (regrouping s r album).recordings ≡ crowds old.album album (tables_of s).recordings
 regroup_crowds s id album r old valid found is there =
-    let named : r.id ≡ id = (found_has (λ (q : Recording). q ≡ q) id s.recordings r (all_same s.recordings) found).1 in
     let own : find (λ (row : RecordingRow). row.id == r.id) (map recording_row s.recordings) ≡ Some (recording_row r) =
-    subst (λ (n : ℕ). find (λ (row : RecordingRow). row.id == n) (map recording_row s.recordings) ≡ Some (recording_row r)) (sym named)
+    subst (λ (n : ℕ). find (λ (row : RecordingRow). row.id == n) (map recording_row s.recordings) ≡ Some (recording_row r)) (sym (recording_named id s.recordings r found))
     (row_found id s.recordings r found) in
     crowds_over (regrouped r album) album (recording_row r) s.recordings (tables_of s).albums refl valid.rows.recordings own there
     valid.rows.few_members
     ∙ ap (λ (row : RecordingRow). crowds row.album album (tables_of s).recordings) is
-  where
-    all_same : (rs : List Recording) → AllByRecursion (λ (q : Recording). q ≡ q) rs
-    all_same [] = tt
-    all_same (q ∷ rs) = (refl, all_same rs)

@@ -9,7 +9,6 @@ use Rattle.keeper_store.specs.declared.row_types.AlbumRow.{AlbumRow}
 use Rattle.keeper_store.specs.declared.row_types.RecordingRow.{RecordingRow}
 use Rattle.keeper_store.specs.declared.row_types.ReplyRow.{ReplyRow}
 use Rattle.library_model.specs.declared.messages.Question.TheVariants as about
-use Rattle.library_model.specs.declared.messages.Reply.{Reply}
 use Rattle.library_model.specs.declared.refusals.Refusal.TheVariants.{NoAlbum, NoRecording}
 use Rattle.library_model.specs.Bodies.{album_row_reply, row_reply}
 use Rattle.library_model.specs.Machine.{album_of, found_album_reply, found_reply, ids_of, kept_under, question_reply, recording_of}
@@ -34,6 +33,14 @@ find_has {A} number P n (y ∷ xs) x all is = cases (number y == n) refl (find_h
     cases false same rest is = rest is
 
 -- ---- recordings
+
+-- a recording that is found has the id
+pub recording_named : (id : ℕ) (rs : List Recording) (r : Recording) → recording_of id rs ≡ Some r → r.id ≡ id
+recording_named id rs r is = (find_has (λ (x : Recording). x.id) (λ (x : Recording). x ≡ x) id rs r (all_same rs) is).1
+  where
+    all_same : (rs : List Recording) → AllByRecursion (λ (x : Recording). x ≡ x) rs
+    all_same [] = tt
+    all_same (x ∷ rs) = (refl, all_same rs)
 
 -- The recording of an id among rows is the row of the one that the state has.
 found_recordings : (id : ℕ) (rs : List Recording)
