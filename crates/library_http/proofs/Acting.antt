@@ -1,5 +1,5 @@
 -- What one request does to the world: one that changes nothing, one that is staged, committed and swept.
-use Rattle.std.proofs.Common.{◌≡◌, ◌≢◌, ◌≤◌, ◌+◌, ◌==◌, ◌||◌, not, ℕ, Bool, true, false, List, [], ◌∷◌, Option, None, Some, refl, sym, ap, ◌∙◌, subst, true≢false, ◌⊎◌, arith, if◌then◌else◌, inl, inr, Result, Ok, Err}
+use Rattle.std.proofs.Common.{◌≡◌, ◌≢◌, ◌≤◌, ◌+◌, ◌==◌, ◌||◌, not, ℕ, Bool, true, false, List, [], ◌∷◌, Option, None, Some, refl, sym, ap, ◌∙◌, subst, true≢false, ◌⊎◌, arith, if◌then◌else◌, inl, inr, Result}
 use Rattle.std.specs.List.{AllByRecursion}
 use Rattle.std.proofs.lemmas.Bool.Decides.{nat_tests}
 use Rattle.lib_base.specs.declared.outcomes.Memory.{Memory}
@@ -7,7 +7,6 @@ use Rattle.lib_base.specs.Faults.{Rose}
 use Rattle.keeper_store.specs.Blobs.{Blobs, OthersKept}
 use Rattle.keeper_store.specs.Changes.{changed_all}
 use Rattle.keeper_store.specs.declared.contents.NextNumbers.{NextNumbers}
-use Rattle.keeper_store.specs.declared.contents.Tables.{Tables}
 use Rattle.keeper_store.specs.Goes.{Goes}
 use Rattle.keeper_store.specs.Keepers.{KeeperView}
 use Rattle.keeper_store.specs.Vaults.{VaultView}
@@ -15,7 +14,7 @@ use Rattle.library_model.specs.declared.messages.Command.{Command}
 use Rattle.library_model.specs.declared.messages.Reply.{Reply}
 use Rattle.library_model.specs.declared.refusals.Refusal.TheVariants as cause
 use Rattle.library_model.specs.Asked.{Asked, change, command, puts_file, spares_vault, takes_file}
-use Rattle.library_model.specs.Exchanges.{exchange, counted}
+use Rattle.library_model.specs.Exchanges.{counted}
 use Rattle.library_model.specs.Granted.{IsGrantable}
 use Rattle.library_model.specs.InOrder.{IsKeptStatus}
 use Rattle.library_model.specs.Machine.{Answer, AnswersBy, Decides, Way, accepts, stays, as_decided, without_memory, vault_failed, keeper_failed, has_take, taken_out}
@@ -36,10 +35,9 @@ use Rattle.catalogue_core.specs.Committing.{Commits, IsLeft, IsMade}
 use Rattle.catalogue_core.specs.Kept.{Holds, HoldsAgain, Keeps, numbers_of, takes_of}
 use Rattle.catalogue_core.specs.Staging.{Prepares, Stages}
 use Rattle.catalogue_core.specs.Sweeping.{Clears, Sweeps}
-use Rattle.library_http.specs.Acts.{Acts, Counts, IsSettled, Leads, OtherKeysKept, count_held, held}
+use Rattle.library_http.specs.Acts.{Acts, IsSettled, Leads, OtherKeysKept, count_held, held}
 use Rattle.library_http.specs.World.{World, world, RoseBy}
 use Rattle.library_http.proofs.Goings.{Goes-same, Goes-then, Goes-weaker, Goes-both, RoseBy-none, RoseBy-one}
-use Rattle.library_http.proofs.Making.{Leads-same}
 
 -- ---- statuses that count
 
@@ -142,8 +140,8 @@ none_left s reply w0 w1 counts others =
     Goes-weaker (OthersKept s.next_take)
     (λ _ blobs. RoseBy (counted (status_of cause.Vault) reply + 0 + count_held blobs (taken_out s s)) w0.vault.faults w1.vault.faults)
     (λ old new kept.
-        let none : count_held new (taken_out s s) ≡ 0 = ap (count_held new) (taken_out-same s) in
-        by_sum (counted (status_of cause.Vault) reply + 0) (count_held new (taken_out s s)) w0.vault.faults w1.vault.faults none counts.vault)
+    let none : count_held new (taken_out s s) ≡ 0 = ap (count_held new) (taken_out-same s) in
+    by_sum (counted (status_of cause.Vault) reply + 0) (count_held new (taken_out s s)) w0.vault.faults w1.vault.faults none counts.vault)
     w0.vault.blobs w1.vault.blobs others
   where
     by_sum : (m n x y : ℕ) → n ≡ 0 → RoseBy m x y → RoseBy (m + n) x y
@@ -309,9 +307,9 @@ made_files s token mark wanted p next v0 v1 v3 valid decides out others put clea
     (λ old new. (key : ℕ) → AllByRecursion (λ take. key ≢ take) (takes_of p.released) → new key ≡ old key)
     (λ old new. HoldsFiles old s.recordings → HoldsFiles new next.recordings)
     (λ a b c staged swept holds.
-        files_behind b c next.recordings (takes_of p.released)
-        (subst (λ (takes : List ℕ). AllByRecursion (λ take. has_take take next.recordings ≡ false) takes) out (taken_out-gone s next)) swept
-        (accepted-HoldsFiles s token mark (command wanted) p.reply next a b valid decides holds staged.0 staged.1))
+    files_behind b c next.recordings (takes_of p.released)
+    (subst (λ (takes : List ℕ). AllByRecursion (λ take. has_take take next.recordings ≡ false) takes) out (taken_out-gone s next)) swept
+    (accepted-HoldsFiles s token mark (command wanted) p.reply next a b valid decides holds staged.0 staged.1))
     v0.blobs v1.blobs v3.blobs
     (Goes-both (OthersKept s.next_take) (λ _ blobs. HoldsFileOf wanted s.next_take blobs)
     (λ old new. OthersKept s.next_take old new × HoldsFileOf wanted s.next_take new) (λ old new kept holds. (kept, holds)) v0.blobs v1.blobs others put)
@@ -396,7 +394,7 @@ Acts-made s token mark wanted p reply r lib0 lib1 lib2 lib3 k0 k2 v0 v1 v3 keeps
           (λ old new. (key : ℕ) → AllByRecursion (λ take. key ≢ take) (takes_of p.released) → new key ≡ old key)
           (OtherKeysKept s.next_take (taken_out s next))
           (λ a b c kept swept key apart differs.
-              swept key (subst (λ (takes : List ℕ). AllByRecursion (λ take. key ≢ take) takes) prepares.released_is differs) ∙ kept key apart)
+          swept key (subst (λ (takes : List ℕ). AllByRecursion (λ take. key ≢ take) takes) prepares.released_is differs) ∙ kept key apart)
           v0.blobs v1.blobs v3.blobs others (swept_keys p.released v1 v3 clears);
       complete = λ _ _. inl (accepts p.reply next, (prepares.decides, made.reply_is, refl));
       granted = λ _ _ may. settled_grants s asked reply next (inl (accepts p.reply next, (prepares.decides, made.reply_is, refl))) may;

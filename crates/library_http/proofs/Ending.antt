@@ -1,6 +1,6 @@
 -- How a session ends, one request in front of others.
-use Rattle.std.proofs.Common.{◌≡◌, ◌≢◌, ◌⊎◌, inl, inr, ℕ, ◌+◌, suc, true, false, Option, List, [], ◌∷◌, ◌++◌, length, refl, sym, ap, ◌∙◌, subst, append_assoc, append-nil}
-use Rattle.std.specs.Io.KnownBytes.{Appends, IsAtEnd}
+use Rattle.std.proofs.Common.{◌≡◌, inl, inr, ℕ, suc, false, Option, List, [], ◌∷◌, ◌++◌, sym, ap, subst, append_assoc, append-nil}
+use Rattle.std.specs.Io.KnownBytes.{Appends}
 use Rattle.std.proofs.KnownBytes.{Appends-trans}
 use Rattle.library_model.specs.declared.messages.Reply.{Reply}
 use Rattle.http_model.specs.Exchanges.{Exchange, exchange, requests_of, spelled_of, spelled_to, spelled_all, ending, output}
@@ -11,7 +11,7 @@ use Rattle.http_inbox.specs.Inboxes.{Covers}
 use Rattle.http_inbox.proofs.CoversLaws.{Covers-all}
 use Rattle.library_http.specs.declared.serving.How.{How}
 use Rattle.library_http.specs.declared.serving.How.TheVariants.{Ended, Turns, Unframeable, SourceFault, SinkFault, Memory}
-use Rattle.library_http.specs.Sessions.{AppendsInPart, BreaksOff, BreaksOffAtEnd, CutShort, EndsAs, Unread, Whole}
+use Rattle.library_http.specs.Sessions.{BreaksOff, BreaksOffAtEnd, CutShort, EndsAs, Unread, Whole}
 use Rattle.library_http.proofs.Goings.{Appends-part}
 
 -- ---- bytes however they go on

@@ -1,13 +1,13 @@
 -- Exchanges made in turn, one in front of others.
-use Rattle.std.proofs.Common.{◌≡◌, ◌≢◌, ◌≤◌, ◌<◌, ℕ, ◌+◌, true, false, Option, None, Some, List, [], ◌∷◌, ◌++◌, refl, sym, ap, ◌∙◌, subst, arith}
+use Rattle.std.proofs.Common.{◌≡◌, ◌≢◌, ◌≤◌, ◌<◌, ℕ, ◌+◌, true, Option, None, Some, List, [], ◌∷◌, ◌++◌, refl, sym, ap, ◌∙◌, arith}
 use Rattle.std.specs.List.{AllByRecursion}
 use Rattle.keeper_store.specs.Blobs.{Blobs}
 use Rattle.keeper_store.specs.Goes.{Goes}
 use Rattle.keeper_store.specs.declared.contents.Tables.{Tables}
 use Rattle.library_model.specs.declared.messages.Reply.{Reply}
 use Rattle.library_model.specs.declared.refusals.Refusal.TheVariants.{Vault, Keeper}
-use Rattle.library_model.specs.Asked.{Asked, spares_vault}
-use Rattle.library_model.specs.Exchanges.{Exchange, exchange, counted, count_status, requests_of}
+use Rattle.library_model.specs.Asked.{Asked}
+use Rattle.library_model.specs.Exchanges.{Exchange, exchange, counted, count_status}
 use Rattle.library_model.specs.InOrder.{Differ}
 use Rattle.library_model.specs.Machine.{has_take, taken_out}
 use Rattle.library_model.specs.Refusals.{status_of}
@@ -70,6 +70,7 @@ released_stay s next later b c given differ behind = by_list (taken_out s next) 
     apart_of : (key : ℕ) (xs ys : List ℕ) → AllByRecursion (λ (other : ℕ). other ≢ key) (xs ++ ys) → AllByRecursion (λ take. key ≢ take) ys
     apart_of key [] ys apart = AllByRecursion-weaker (λ (other : ℕ). other ≢ key) (λ take. key ≢ take) ys (λ take not same. not (sym same)) apart
     apart_of key (x ∷ xs) ys apart = apart_of key xs ys apart.1
+
     by_list : (keys : List ℕ) → AllByRecursion (λ key. key < next.next_take) keys → Differ (keys ++ later)
         → AllByRecursion (λ key. c key ≡ b key) keys
     by_list [] below differ = tt
@@ -93,8 +94,10 @@ Counts-then e exchanges released later w0 w1 w2 first next stay = record {
 } where
   RoseBy-cons : (a b x y z : ℕ) → RoseBy (a + 0) x y → RoseBy b y z → RoseBy (a + b) x z
   RoseBy-cons a b x y z p q = omega arith
+
   sums : (a b c d n x y z : ℕ) → n ≡ c + d → RoseBy (a + 0 + c) x y → RoseBy (b + d) y z → RoseBy (a + b + n) x z
   sums a b c d n x y z is p q = omega arith
+
   by_told : (m n x y z : ℕ) (a b c : Option Blobs) → Goes (λ _ blobs. RoseBy (m + 0 + count_held blobs released) x y) a b
       → Goes (λ _ blobs. RoseBy (n + count_held blobs later) y z) b c
       → Goes (λ old new. AllByRecursion (λ key. new key ≡ old key) released) b c

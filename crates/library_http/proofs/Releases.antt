@@ -1,11 +1,9 @@
 -- The takes that requests take out, each once for good.
-use Rattle.std.proofs.Common.{◌≡◌, ◌≢◌, ◌≤◌, ◌<◌, ◌⊎◌, inl, inr, true≢false, ℕ, Bool, true, false, List, [], ◌∷◌, ◌++◌, refl, sym, ap, ◌∙◌, subst, arith}
+use Rattle.std.proofs.Common.{◌≡◌, ◌≢◌, ◌≤◌, ◌⊎◌, inl, inr, true≢false, ℕ, Bool, true, false, List, [], ◌∷◌, ◌++◌, refl, sym, ◌∙◌, subst, arith}
 use Rattle.std.specs.List.{AllByRecursion}
-use Rattle.library_model.specs.declared.messages.Reply.{Reply}
-use Rattle.library_model.specs.Asked.{Asked}
 use Rattle.library_model.specs.Exchanges.{Exchange, Answers}
 use Rattle.library_model.specs.InOrder.{Differ}
-use Rattle.library_model.specs.Machine.{Answer, has_take, taken_out}
+use Rattle.library_model.specs.Machine.{has_take, taken_out}
 use Rattle.library_model.specs.Stands.{IsValid}
 use Rattle.library_model.specs.State.{State}
 use Rattle.library_model.proofs.Imports.{AllByRecursion-both, AllByRecursion-weaker}

@@ -7,10 +7,8 @@ use Rattle.lib_base.specs.declared.outcomes.Outside.TheVariants as outside
 use Rattle.lib_base.specs.Writes.{SinkView, WritesAll}
 use Rattle.library_model.specs.declared.messages.Question.{Question}
 use Rattle.library_model.specs.declared.messages.Reply.{Reply}
-use Rattle.library_model.specs.declared.refusals.Refusal.TheVariants as cause
 use Rattle.library_model.specs.Asked.{Asked, Wanted, change, malformed, question, refused}
 use Rattle.library_model.specs.Machine.{Decides, kept_under, question_reply, stays}
-use Rattle.library_model.specs.Replies.{refusal}
 use Rattle.library_model.specs.State.{State}
 use Rattle.library_model.proofs.Exits.{malformed_exit}
 use Rattle.library_model.proofs.Statuses.{RefusesBelow}

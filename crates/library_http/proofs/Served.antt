@@ -1,5 +1,5 @@
 -- What serving does, one turn in front of others.
-use Rattle.std.proofs.Common.{◌≡◌, ◌≢◌, ◌≤◌, ◌⊎◌, inl, inr, ℕ, ◌+◌, suc, zero, true, false, Option, List, [], ◌∷◌, ◌++◌, length, refl, sym, ap, ◌∙◌, subst, append_assoc, append-nil, arith}
+use Rattle.std.proofs.Common.{◌≡◌, ◌≢◌, ◌⊎◌, inl, inr, ℕ, ◌+◌, suc, true, List, [], ◌∷◌, ◌++◌, refl, sym, ap, ◌∙◌, subst, append_assoc, append-nil, arith}
 use Rattle.std.specs.Io.KnownBytes.{Appends, Consumes, IsAtEnd}
 use Rattle.std.proofs.KnownBytes.{Appends-nil, Consumes-trans}
 use Rattle.lib_base.specs.Sources.{SourceView}
@@ -9,8 +9,8 @@ use Rattle.library_model.specs.Machine.{AnswersBy, Way, as_decided, keeper_faile
 use Rattle.library_model.specs.State.{State}
 use Rattle.library_model.proofs.Statuses.{Decides-IsBelow}
 use Rattle.http_model.specs.Asking.{asked_of}
-use Rattle.http_model.specs.Exchanges.{Exchange, exchange, answered_all, requests_of, spelled_of, spelled_to, spelled_all, ending, output}
-use Rattle.http_model.specs.Requests.{AreRequests, End, Framed, Frames, IsFront, IsUnframeable, closes, ended, turns, unframeable}
+use Rattle.http_model.specs.Exchanges.{exchange, answered_all, spelled_to, ending}
+use Rattle.http_model.specs.Requests.{AreRequests, End, Framed, Frames, IsUnframeable, closes, ended, unframeable}
 use Rattle.http_model.specs.declared.refusals.FramingRefusal.{FramingRefusal}
 use Rattle.http_model.specs.declared.refusals.FramingRefusal.TheVariants.{Frame}
 use Rattle.http_model.specs.Refusals.{framing_refusal}
@@ -146,6 +146,7 @@ Serves-broke s more how held held_now source0 source1 sink0 sink1 w0 w1 keeps fi
   where
     q : Framed
     q = finds.framed
+
     serves : (how : How) (partly : PartlyReplied s q sink0 sink1 w0 w1)
         → (BreaksOff (suc more) 0 source1.left (held ++ finds.taken) (exchange q partly.reply ∷ []) sink0.written sink1.written
         → EndsAs how (suc more) 0 source1.left (held ++ finds.taken) (exchange q partly.reply ∷ []) sink0.written sink1.written)
@@ -165,6 +166,7 @@ Serves-broke s more how held held_now source0 source1 sink0 sink1 w0 w1 keeps fi
         written = Appends-part_only sink0.written sink0.written sink1.written [] (spelled_to q partly.reply) (Appends-nil sink0.written) partly.written;
       });
     }
+
     by_how : (how : How) → StopsIn how s q sink0 sink1 w0 w1 → Serves held (suc more) s how 0 source0 source1 sink0 sink1 w0 w1
     by_how SinkFault partly = serves SinkFault partly (λ breaks. inl breaks)
     by_how Memory partly = serves Memory partly (λ breaks. inl breaks)
@@ -212,6 +214,7 @@ Serves-refused s more how refusal held taken source0 source1 sink0 sink1 w keeps
     requests = Covers-weaker source1.left (held ++ taken) (λ bytes. IsUnframeable bytes refusal)
         (λ bytes. AreRequests (suc more) bytes [] (unframeable (framing_refusal refusal)))
         (λ bytes is. AreRequests-refused more bytes refusal is) unframed
+
     breaks : AppendsPart sink0.written sink1.written (ending (unframeable (framing_refusal refusal)))
         → BreaksOffAtEnd (suc more) 0 source1.left (held ++ taken) [] sink0.written sink1.written
     breaks part = record {
@@ -220,6 +223,7 @@ Serves-refused s more how refusal held taken source0 source1 sink0 sink1 w keeps
       counted = refl;
       written = Appends-part_only sink0.written sink0.written sink1.written [] (ending (unframeable (framing_refusal refusal))) (Appends-nil sink0.written) part;
     }
+
     by_how : (how : How) → RefusesBy how refusal sink0 sink1
         → EndsAs how (suc more) 0 source1.left (held ++ taken) [] sink0.written sink1.written
     by_how Unframeable written = (refusal, record { requests = requests; counted = refl; written = written })
@@ -239,6 +243,7 @@ Serves-fault s more held taken source0 source1 sink w keeps content cut =
     cut_at : (end : End) → AreRequests (suc more) (held ++ taken) [] end
         → CutShort (suc more) 0 (held ++ taken) [] sink.written sink.written
     cut_at end are = record { end = end; requests = are; counted = refl; written = Appends-nil sink.written }
+
     by_case : (held ++ taken ≡ []) ⊎ IsUnframeable (held ++ taken) Frame → CutShort (suc more) 0 (held ++ taken) [] sink.written sink.written
     by_case (inl none) = cut_at ended (AreRequests-none (suc more) (held ++ taken) none)
     by_case (inr is) = cut_at (unframeable (framing_refusal Frame)) (AreRequests-refused more (held ++ taken) Frame is)

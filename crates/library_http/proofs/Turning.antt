@@ -1,5 +1,5 @@
 -- What one turn of serving does, by what was found where the next request was looked for.
-use Rattle.std.proofs.Common.{◌≡◌, ◌≢◌, ◌<◌, ◌≤◌, ◌+◌, ℕ, suc, List, [], ◌∷◌, ◌++◌, length, take, Option, Result, Ok, Err, refl, sym, ap, ◌∙◌, subst, append-nil}
+use Rattle.std.proofs.Common.{◌≡◌, ◌≢◌, ◌<◌, ℕ, suc, List, [], ◌++◌, length, take, Ok, Err, refl, sym, ap, ◌∙◌, subst, append-nil}
 use Rattle.std.proofs.KnownBytes.{Consumes-kept, Consumes-nil}
 use Rattle.std.proofs.lemmas.List.{length-take-le}
 use Rattle.lib_base.specs.Sources.{Reads, SourceView}
@@ -9,7 +9,6 @@ use Rattle.library_model.specs.State.{State}
 use Rattle.http_model.specs.declared.refusals.FramingRefusal.{FramingRefusal}
 use Rattle.http_model.specs.Requests.{Frames}
 use Rattle.http_model.proofs.AskingLaws.{Frames-within}
-use Rattle.http_inbox.specs.declared.requests.Next.{Next}
 use Rattle.http_inbox.specs.declared.requests.Next.TheVariants as next
 use Rattle.http_inbox.specs.declared.requests.Request.{Request}
 use Rattle.http_inbox.specs.Nexts.{BeginsWith, ReadsNext, behind, framed}
@@ -92,8 +91,9 @@ Serves-looked {E} s held into n source0 source1 sink w keeps empty reads some =
   where
     length-of : held ++ take n into ≡ [] → length (take n into) ≡ 0
     length-of none = ap length (subst (λ (bytes : List ℕ). bytes ++ take n into ≡ []) empty none)
+
     taken_some : length (take n into) ≢ 0
-    taken_some none = some (sym (length-take-le n into reads.within) ∙ none)
+    taken_some none = some (sym (length-take-le n into reads.within.0) ∙ none)
 
 pub Serves-looked_end : {E : Type 0} (s : State) (held into : List ℕ) (source0 source1 : SourceView) (sink : SinkView) (w : World)
     → Keeps w.library s → held ≡ [] → Reads {E = E} source0 source1 into (Ok 0) → 0 < length into

@@ -75,11 +75,13 @@ pub(crate) fn answer<R: Threads + Sync, D: Keeper, V: Vault, L: Ledger>(
             reply: ask(library, &question, vault).ok(),
             allows: None,
         },
-        Ok(Asking::Change {
-            token,
-            mark,
-            resource,
-        }) => Given {
+        Ok(
+            Asking::Change {
+                token,
+                mark,
+                resource,
+            },
+        ) => Given {
             reply: change(
                 rt, alloc, library, keeper, vault, bytes, heading, body, token, mark, resource,
                 workers, steps,

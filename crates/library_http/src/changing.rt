@@ -61,8 +61,8 @@ pub(crate) fn change<R: Threads + Sync, D: Keeper, V: Vault, L: Ledger>(
 {
     match kept_reply(alloc, library, &token, &mark) {
         Ok(None) => want(
-            rt, alloc, library, keeper, vault, bytes, heading, body, token, mark, resource, workers,
-            steps,
+            rt, alloc, library, keeper, vault, bytes, heading, body, token, mark, resource,
+            workers, steps,
         ),
         Ok(Some(reply)) => Some(reply),
         Err(Memory) => None,

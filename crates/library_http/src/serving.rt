@@ -267,7 +267,8 @@ fn serve_request<R: Threads + Sync, K: Sink, D: Keeper, V: Vault, L: Ledger>(
         steps,
     );
     inbox.pass(&heading, size);
-    turn_of(heading.closes, write_given(alloc, sink, &given, heading.closes))
+    let written = write_given(alloc, sink, &given, heading.closes);
+    turn_of(heading.closes, written)
 }
 
 /// The turn whose reply was written, or written in part, after which the session closes or not.
@@ -275,11 +276,7 @@ fn turn_of(closes: bool, written: Result<(), Outside>) -> Turn
     ensures { result ≡ turns.turn_of closes written }
 {
     match written {
-        Ok(()) => if closes {
-            Turn::Closed
-        } else {
-            Turn::Answered
-        },
+        Ok(()) => if closes { Turn::Closed } else { Turn::Answered },
         Err(Outside::Failed) => Turn::Stopped(How::SinkFault),
         Err(Outside::Memory) => Turn::Stopped(How::Memory),
     }

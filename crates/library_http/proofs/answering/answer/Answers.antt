@@ -26,7 +26,7 @@ returns-in-Ok-Question-clause-acts g c = λ s keeps q lies same.
     let says : question c.in-Ok-Question.question ≡ asked_of q = rw c.in-Ok-Question.field-0-is at (c.in-Ok-Question.ensures.says q lies (c.as_slice.ensures ∙ same)) in
     rw c.ask.ensures.vault
     (Acts-asked s q c.in-Ok-Question.question c.ask.result c.ok.result
-    (world c.args.library.now (g.D.Keeper.shown c.args.keeper.now) (g.V.Vault.shown c.args.vault.now)) keeps says c.ok.ensures
+    (world c.args.library.now (g.D.Keeper.shown c.args.keeper.now) (g.V.Vault.shown c.args.vault.now)) keeps says c.ok.ensures.value
     (c.ask.ensures.answers s keeps))
 
 pub returns-in-Ok-Question-clause-allows : goal.returns-in-Ok-Question-clause-allows

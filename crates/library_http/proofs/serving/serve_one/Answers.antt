@@ -1,6 +1,12 @@
+use Rattle.std.proofs.Common.{◌++◌}
 use Rattle.library_http.specs.World.{world}
-use Rattle.library_http.proofs.Turning.{TurnDoes-ended, TurnDoes-fault, TurnDoes-framed, TurnDoes-refused, TurnDoes-unread}
+use Rattle.library_http.proofs.Turning.{BeginsWith-within, TurnDoes-ended, TurnDoes-fault, TurnDoes-framed, TurnDoes-refused, TurnDoes-unread}
 use Rattle.library_http.proofs.serving.serve_one.Goals as goal
+
+pub serve_request-requires-clause-within : goal.serve_request-requires-clause-within
+serve_request-requires-clause-within g c κs within =
+    let reads = rw c.in-Framed.is at c.next_request.ensures in
+    BeginsWith-within (c.args.inbox.now ++ reads.taken) c.next_request.new.inbox c.in-Framed.request reads.found
 
 pub returns-in-Framed-clause-turn : goal.returns-in-Framed-clause-turn
 returns-in-Framed-clause-turn g c = λ s keeps.

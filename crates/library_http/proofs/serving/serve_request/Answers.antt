@@ -18,13 +18,13 @@ returns-clause-turn g c = λ s keeps head lies.
     let given = c.answer-given.result.reply in
     let shuts = lies.values.closes in
     let spells : spelled c.args.request.heading.closes (allowed_in given (methods_if c.answer-given.result.allows)) (reply_given given)
-        ≡ spelled_to q (reply_given given) =
+    ≡ spelled_to q (reply_given given) =
     ap (λ (b : Bool). spelled b (allowed_in given (methods_if c.answer-given.result.allows)) (reply_given given)) shuts
     ∙ ap (λ (methods : List (List ℕ)). spelled (closes head) methods (reply_given given)) (c.answer-given.ensures.allows q there refl) in
-    TurnsOn-written s q (reply_given given) c.args.request.heading.closes c.write_given.result c.turn_of.result
-    (g.K.Sink.shown c.args.sink.now) (g.K.Sink.shown c.write_given.new.sink)
+    TurnsOn-written s q (reply_given given) c.args.request.heading.closes c.write_given-written.result c.turn_of.result
+    (g.K.Sink.shown c.args.sink.now) (g.K.Sink.shown c.write_given-written.new.sink)
     (world c.args.library.now (g.D.Keeper.shown c.args.keeper.now) (g.V.Vault.shown c.args.vault.now))
     (world c.answer-given.new.library (g.D.Keeper.shown c.answer-given.new.keeper) (g.V.Vault.shown c.answer-given.new.vault))
     c.turn_of.ensures shuts (c.answer-given.ensures.acts s keeps q there refl)
-    (subst (λ (text : List ℕ). WritesAll (g.K.Sink.shown c.args.sink.now) (g.K.Sink.shown c.write_given.new.sink) text c.write_given.result)
-    spells c.write_given.ensures)
+    (subst (λ (text : List ℕ). WritesAll (g.K.Sink.shown c.args.sink.now) (g.K.Sink.shown c.write_given-written.new.sink) text c.write_given-written.result)
+    spells c.write_given-written.ensures)

@@ -9,3 +9,9 @@ returns-in_default-clause-session g c = λ start keeps.
     let source = g.S.Source.shown c.args.source.now in
     Serves-unread start c.args.requests [] [] source source (g.K.Sink.shown c.args.sink.now)
     (world c.args.library.now (g.D.Keeper.shown c.args.keeper.now) (g.V.Vault.shown c.args.vault.now)) keeps (Consumes-nil source.left)
+
+pub returns-in_default-new-clause-session : goal.returns-in_default-new-clause-session
+returns-in_default-new-clause-session g c = λ start keeps.
+    let source = g.S.Source.shown c.args.source.now in
+    Serves-unread start c.args.requests [] [] source source (g.K.Sink.shown c.args.sink.now)
+    (world c.args.library.now (g.D.Keeper.shown c.args.keeper.now) (g.V.Vault.shown c.args.vault.now)) keeps (Consumes-nil source.left)
