@@ -1,10 +1,21 @@
+use Rattle.std.proofs.Common.{◌≡◌, sym}
+use Rattle.library_model.specs.Replies.{format_refusal, refusal}
+use Rattle.library_model.specs.Stands.{tables_of}
+use Rattle.library_model.specs.declared.messages.Command.TheVariants.{Import}
+use Rattle.library_model.specs.declared.refusals.Refusal.TheVariants.{NoAlbum}
+use Rattle.library_model.proofs.Refusing.{import_broken, import_no_album}
+use Rattle.catalogue_core.proofs.Exits.{refuses}
 use Rattle.catalogue_core.proofs.importing.decide_import.Goals as goal
 
-pub returns-clause-decides : goal.returns-clause-decides
-returns-clause-decides g c = ?
-
 pub returns-then-not-is_there-clause-decides : goal.returns-then-not-is_there-clause-decides
-returns-then-not-is_there-clause-decides g c = ?
+returns-then-not-is_there-clause-decides g c = λ s token mark keeps fresh.
+    refuses c.refused.result s token mark (Import c.args.album c.args.name.now c.args.file.now) (refusal NoAlbum) c.refused.ensures
+    (import_no_album s token mark c.args.album c.args.name.now c.args.file.now fresh (sym (c.if-not-is_there.ensures (tables_of s) keeps.rows)))
 
 pub returns-in-Broken-clause-decides : goal.returns-in-Broken-clause-decides
-returns-in-Broken-clause-decides g c = ?
+returns-in-Broken-clause-decides g c = λ s token mark keeps fresh.
+    let fault = c.in-Broken.fault in
+    let found = rw c.in-Broken.is at c.in_ok-fault.ensures in
+    refuses c.refused_for.result s token mark (Import c.args.album c.args.name.now c.args.file.now) (format_refusal fault.rule fault.place) c.refused_for.ensures
+    (import_broken s token mark c.args.album c.args.name.now c.args.file.now fault.rule fault.place fresh
+    (sym (c.if-not-is_there.ensures (tables_of s) keeps.rows)) found)

@@ -1,3 +1,4 @@
+use Rattle.std.proofs.Common.{◌≡◌, ◌∙◌, sym, subst, ap, Some}
 use Rattle.catalogue_core.proofs.resumming.resummed.Goals as goal
 
 pub returns-in_ok-clone-in-Some-Some : goal.returns-in_ok-clone-in-Some-Some
