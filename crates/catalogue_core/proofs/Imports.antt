@@ -1,5 +1,5 @@
 -- Imports are decided as the machine decides them.
-use Rattle.std.proofs.Common.{◌≡◌, ◌+◌, ◌++◌, ℕ, true, false, List, [], ◌∷◌, Option, None, Some, map, refl, sym, ap, subst}
+use Rattle.std.proofs.Common.{◌≡◌, ◌+◌, ◌++◌, ◌∙◌, ℕ, true, false, List, [], ◌∷◌, Option, None, Some, map, refl, sym, ap, subst}
 use Rattle.album_merge.specs.Tallies.{Tallied, StandsForMeasured}
 use Rattle.catalogue_rows.specs.Making.{FitsAll}
 use Rattle.catalogue_rows.specs.Seeing.{is_full_in}

@@ -19,3 +19,10 @@ returns-in-Broken-clause-decides g c = λ s token mark keeps fresh.
     refuses c.refused_for.result s token mark (Import c.args.album c.args.name.now c.args.file.now) (format_refusal fault.rule fault.place) c.refused_for.ensures
     (import_broken s token mark c.args.album c.args.name.now c.args.file.now fault.rule fault.place fresh
     (sym (c.if-not-is_there.ensures (tables_of s) keeps.rows)) found)
+
+pub returns-in-Accepted-clause-decides : goal.returns-in-Accepted-clause-decides
+returns-in-Accepted-clause-decides g c = λ s token mark keeps fresh.
+    let found = rw c.in-Accepted.is at c.in_ok-fault.ensures in
+    c.import_measured.ensures.decides s token mark keeps.rows (record { valid = keeps.valid; fresh = fresh })
+    (record { named = c.requires.named; there = sym (c.if-not-is_there.ensures (tables_of s) keeps.rows) })
+    (record { within = c.requires.within; sound = found.0; reads = found.1; measured = found.2 })
