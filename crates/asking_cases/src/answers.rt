@@ -130,7 +130,9 @@ fn commanded(alloc: Global, command: &Command) -> Result<String> {
             let album = album_of(alloc, *album)?;
             Ok(format!(in alloc; "regroup {recording} into {album}")?)
         }
-        Command::RemoveRecording { recording: id } => Ok(format!(in alloc; "remove recording {id}")?),
+        Command::RemoveRecording { recording: id } => Ok(format!(in alloc;
+            "remove recording {id}"
+        )?),
         Command::RemoveAlbum { album: id } => Ok(format!(in alloc; "remove album {id}")?),
     }
 }

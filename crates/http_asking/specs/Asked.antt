@@ -10,8 +10,8 @@ use Rattle.http_model.specs.Asking.{name_values, wanted_at}
 use Rattle.http_model.specs.Requests.{Framed}
 use Rattle.http_asking.specs.declared.asking.Asking.{Asking}
 use Rattle.http_asking.specs.declared.asking.Asking.TheVariants.{Refused, Question, Change}
-use Rattle.http_asking.specs.declared.wanting.Wanted.{Wanted}
-use Rattle.http_asking.specs.declared.wanting.Wanted.TheVariants.{Malformed, Command}
+use Rattle.http_asking.specs.declared.wants.Wanted.{Wanted}
+use Rattle.http_asking.specs.declared.wants.Wanted.TheVariants.{Malformed, Command}
 
 -- what is said that a request asks
 abbrev pub said : Asking → Framed → asked.Asked

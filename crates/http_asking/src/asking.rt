@@ -83,11 +83,7 @@ fn ask_at(
 }
 
 /// What is refused for that cause. The reply names the methods of that route, where there is one.
-fn refused(
-    alloc: Global,
-    cause: AskingRefusal,
-    allows: Option<Route>,
-) -> Result<Asking, Memory>
+fn refused(alloc: Global, cause: AskingRefusal, allows: Option<Route>) -> Result<Asking, Memory>
     ensures says { IfOk result (λ asking. (q : Framed) → said asking q ≡ asked.refused (asking_refusal cause)) }
     ensures allows { IfOk result (λ asking. allowed_by asking ≡ methods_if allows) }
 {

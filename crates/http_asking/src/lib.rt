@@ -9,8 +9,10 @@ mod asking;
 mod fields;
 mod marks;
 mod wanting;
+mod wants;
 
 pub use asking::{Asking, ask_for};
 pub use fields::{Field, field_of, name_asked, token_asked};
 pub use marks::mark_of;
-pub use wanting::{Wanted, wanted};
+pub use wanting::wanted;
+pub use wants::Wanted;

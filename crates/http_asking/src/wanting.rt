@@ -13,6 +13,7 @@ ghost use Rattle.http_asking.specs.Asked.{HasHeading, wanted_said};
 ghost use Rattle.http_asking.specs.Fields.{IsField};
 
 use crate::fields::{Field, field_of, name_asked};
+use crate::wants::Wanted;
 use http_inbox::Heading;
 use http_model::AskingRefusal;
 use http_routes::Resource;
@@ -20,14 +21,6 @@ use json_bodies::{read_album, read_name};
 use lib_base::{Bytes, Memory};
 use library_model::{BodyKind, Command, Reply};
 use std::alloc::Global;
-
-/// What a change wants.
-#[derive(Debug, Drop)]
-pub enum Wanted {
-    /// Nothing: its name or its body breaks its form, and this is the reply.
-    Malformed(Reply),
-    Command(Command),
-}
 
 /// The reply to what is refused for that cause.
 pub(crate) fn refuse(alloc: Global, cause: AskingRefusal) -> Result<Reply, Memory>
@@ -78,7 +71,9 @@ fn wanted_at(
             bytes: body,
         })),
         Resource::RecordingAlbum(recording) => regroup(alloc, recording, &body),
-        Resource::Recording(recording) => Ok(Wanted::Command(Command::RemoveRecording { recording })),
+        Resource::Recording(recording) => Ok(Wanted::Command(Command::RemoveRecording {
+            recording,
+        })),
         Resource::Album(album) => Ok(Wanted::Command(Command::RemoveAlbum { album })),
     }
 }

@@ -6,3 +6,4 @@ pub mod RunLaws
 pub mod WorkedAsking
 pub mod WorkedRequests
 pub mod WorkedSpelling
+pub mod AskingStatuses

@@ -48,7 +48,13 @@ fn replies_are_written(rt: HostRuntime) -> Result<(), Fail> {
 #[test]
 fn a_sink_fails_in_either_part(rt: HostRuntime) -> Result<(), Fail> {
     let alloc = rt.alloc();
-    for (call, parts) in [(1, ""), (2, "HTTP/1.1 200 OK\r\nContent-Type: application/json\r\nContent-Length: 2\r\n\r\n")] {
+    for (call, parts) in [
+        (1, ""),
+        (
+            2,
+            "HTTP/1.1 200 OK\r\nContent-Type: application/json\r\nContent-Length: 2\r\n\r\n",
+        ),
+    ] {
         let mut sink = MemSink::new(alloc, vec![in alloc; call]?);
         let written = write_reply(alloc, &mut sink, &reply(alloc, 200)?, None, false);
         assert!(rt; matches!(&written, Err(Outside::Failed)));

@@ -68,12 +68,26 @@ no_float-ids (id ∷ ids) = no_float-ids ids
 pub no_float-recording : (r : RecordingRow) → has_float (recording_data r) ≡ false
 no_float-recording r =
     let s = r.summary in
-    rw (no_float-album_id r.album, no_float-level s.gain, no_float-level s.loudness, no_float-level s.momentary, no_float-level s.range,
-    no_float-level s.short_term, no_float-level s.true_peak) refl
+    rw (
+      no_float-album_id r.album,
+      no_float-level s.gain,
+      no_float-level s.loudness,
+      no_float-level s.momentary,
+      no_float-level s.range,
+      no_float-level s.short_term,
+      no_float-level s.true_peak,
+    ) refl
 
 -- Nor is anything of an album.
 pub no_float-album : (a : AlbumRow) (ids : List ℕ) → has_float (album_data a ids) ≡ false
 no_float-album a ids =
     let s = a.summary in
-    rw (no_float-ids ids, no_float-level s.gain, no_float-level s.loudness, no_float-level s.momentary, no_float-level s.range,
-    no_float-level s.short_term, no_float-level s.true_peak) refl
+    rw (
+      no_float-ids ids,
+      no_float-level s.gain,
+      no_float-level s.loudness,
+      no_float-level s.momentary,
+      no_float-level s.range,
+      no_float-level s.short_term,
+      no_float-level s.true_peak,
+    ) refl

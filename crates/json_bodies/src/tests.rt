@@ -153,7 +153,10 @@ fn albums_and_removals_are_described(rt: HostRuntime) -> Result<(), Fail> {
         ),
     ] {
         let reply = describe_album(alloc, 201, &row, ids)?;
-        assert_eq!(rt; (reply.status, reply.body.as_slice()), (201, want.as_bytes()));
+        assert_eq!(rt;
+            (reply.status, reply.body.as_slice()),
+            (201, want.as_bytes())
+        );
     }
     let removed = describe_removed(alloc, 7)?;
     assert_eq!(rt; removed.body.as_slice(), br#"{"removed":7}"#.as_slice());

@@ -1,5 +1,4 @@
-pub mod Fields
-pub mod Framed
-pub mod Heads
+pub mod Acts
 pub mod Sessions
+pub mod Turns
 pub mod World

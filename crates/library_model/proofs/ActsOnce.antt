@@ -1,8 +1,8 @@
 -- A changing request acts once: its reply is kept under its token, and whatever comes with that token again changes nothing.
-use Rattle.std.proofs.Common.{◌≡◌, ◌||◌, ℕ, Bool, true, false, nat_le, Option, None, Some, List, [], ◌∷◌, refl, sym, ap, ◌∙◌, subst, if◌then◌else◌}
+use Rattle.std.proofs.Common.{◌≡◌, ℕ, Option, Some, List, [], ◌∷◌, ap, ◌∙◌, subst}
 use Rattle.keeper_store.specs.Puts.{put}
 use Rattle.library_model.specs.declared.messages.Reply.{Reply}
-use Rattle.library_model.specs.Asked.{Asked, Wanted, change, command, question, refused}
+use Rattle.library_model.specs.Asked.{Asked, Wanted, change, question, refused}
 use Rattle.library_model.specs.Exchanges.{Answers, Exchange}
 use Rattle.library_model.specs.Machine.{Answer, AnswersBy, Decides, DecidesChange, Verdict, Way, accepts, as_decided, keeper_failed, kept_reply, kept_under, state_after, stays, vault_failed, without_memory}
 use Rattle.library_model.specs.State.{Kept, State, kept_before}

@@ -1,11 +1,10 @@
 -- Albums that get other levels, row by row.
-use Rattle.std.proofs.Common.{◌≡◌, ◌≢◌, ◌==◌, ◌||◌, ◌∙◌, ℕ, Bool, true, false, cond, nat_lt, Option, None, Some, List, [], ◌∷◌, ◌++◌, map, refl, sym, ap, subst, arith}
+use Rattle.std.proofs.Common.{◌≡◌, ◌==◌, ◌∙◌, ℕ, Bool, true, false, cond, nat_lt, Option, None, Some, List, [], ◌∷◌, ◌++◌, map, refl, sym, ap, subst, arith}
 use Rattle.std.specs.Prelude.{⊤}
-use Rattle.std.specs.List.{AllByRecursion, find, list_any}
+use Rattle.std.specs.List.{AllByRecursion, list_any}
 use Rattle.std.specs.Option.{option_map}
 use Rattle.std.proofs.lemmas.Bool.Decides.{nat_tests}
 use Rattle.lib_base.specs.declared.files.Measured.{Measured}
-use Rattle.lib_base.specs.declared.files.Summary.{Summary}
 use Rattle.keeper_store.specs.Changes.{changed, changed_all}
 use Rattle.keeper_store.specs.Orders.{albums_in_order}
 use Rattle.keeper_store.specs.Puts.{Ascends, IsOrder, album_less, put}

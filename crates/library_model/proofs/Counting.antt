@@ -1,5 +1,5 @@
 -- How many recordings an album has once one is put, and when it has too many.
-use Rattle.std.proofs.Common.{◌≡◌, ◌≢◌, ◌≤◌, ◌<◌, ◌+◌, ◌==◌, ◌&&◌, ◌||◌, not, true≢false, ℕ, Bool, true, false, cond, nat_lt, nat_le, Option, None, Some, List, [], ◌∷◌, length, map, refl, sym, ap, ◌∙◌, subst, arith}
+use Rattle.std.proofs.Common.{◌≡◌, ◌≢◌, ◌≤◌, ◌+◌, ◌==◌, ◌&&◌, ◌||◌, not, true≢false, ℕ, Bool, true, false, cond, nat_lt, nat_le, Option, None, Some, List, [], ◌∷◌, map, refl, sym, ap, ◌∙◌, subst, arith}
 use Rattle.std.specs.List.{AllByRecursion, find}
 use Rattle.std.proofs.lemmas.Bool.Decides.{nat_tests}
 use Rattle.std.proofs.lemmas.List.Sums.{sum_by-cons}
@@ -11,9 +11,10 @@ use Rattle.library_model.specs.declared.limits.TheConstants.{MOST_MEMBERS}
 use Rattle.library_model.specs.Batches.{crowds}
 use Rattle.library_model.specs.Machine.{is_crowded}
 use Rattle.library_model.specs.RowRules.{album_is_there, has_album, is_in_album, member_count}
-use Rattle.library_model.specs.Stands.{members, recording_row}
+use Rattle.library_model.specs.Stands.{recording_row}
 use Rattle.library_model.specs.State.{Recording, recording_before}
-use Rattle.library_model.proofs.NextTables.{count_of-rows, less_or_same, more_or_same, neither}
+use Rattle.library_model.proofs.NextTables.{count_of-rows}
+use Rattle.library_model.proofs.Numbers.{below_differs, level_is, test_differs, test_is, test_itself}
 
 -- what a recording counts in an album
 abbrev pub weight : ℕ → RecordingRow → ℕ
@@ -40,7 +41,7 @@ count_new id row (x ∷ rows) none =
     cases true second false below above is rest none =
         let one = rest none in omega (arith, one, count-cons id x (put recording_less row rows), count-cons id x rows)
     cases false true false below above is rest none = count-cons id row (x ∷ rows)
-    cases false false false below above is rest none = absurd (neither x.id row.id below above is)
+    cases false false false below above is rest none = absurd (test_differs x.id row.id is (level_is x.id row.id below above))
 
 -- One that is put over another counts in its place.
 pub count_over : (id : ℕ) (row : RecordingRow) (rows : List RecordingRow) (old : RecordingRow) → Ascends recording_less rows
@@ -64,16 +65,24 @@ count_over id row (x ∷ rows) old rise found =
         → cond here (Some x) (find (λ (r : RecordingRow). r.id == row.id) rows) ≡ Some old
         → member_count id (cond first (x ∷ put recording_less row rows) (cond second (row ∷ x ∷ rows) (row ∷ rows))) + weight id old
         ≡ weight id row + member_count id (x ∷ rows)
-    cases true second true below above is rest found = absurd (less_or_same x.id row.id below is)
+    cases true second true below above is rest found = absurd (below_differs x.id row.id below (test_is x.id row.id is))
     cases true second false below above is rest found =
         let one = rest found in omega (arith, one, count-cons id x (put recording_less row rows), count-cons id x rows)
-    cases false true true below above is rest found = absurd (more_or_same x.id row.id above is)
+    cases false true true below above is rest found = absurd (below_differs row.id x.id above (sym (test_is x.id row.id is)))
     cases false true false below above is rest found = absurd (later rows above rise.0 found)
-    cases false false false below above is rest found = absurd (neither x.id row.id below above is)
+    cases false false false below above is rest found = absurd (test_differs x.id row.id is (level_is x.id row.id below above))
     cases false false true below above is rest found =
         let this : x ≡ old = cc found in
         let alike : weight id x ≡ weight id old = ap (weight id) this in
         omega (arith, alike, count-cons id row rows, count-cons id x rows)
+
+-- One that is put over another of its album leaves each count.
+pub count_same : (id : ℕ) (row : RecordingRow) (rows : List RecordingRow) (old : RecordingRow) → Ascends recording_less rows
+    → find (λ (r : RecordingRow). r.id == row.id) rows ≡ Some old → old.album ≡ row.album
+    → member_count id (put recording_less row rows) ≡ member_count id rows
+count_same id row rows old rise found same =
+    let alike : weight id old ≡ weight id row = ap (λ (album : Option ℕ). cond (is_in_album id album) 1 0) same in
+    omega (arith, alike, count_over id row rows old rise found)
 
 -- ---- too many
 
@@ -104,9 +113,6 @@ more_than n m is = grind (arith, nat_tests)
 not_more : (n : ℕ) → n ≤ MOST_MEMBERS → nat_lt MOST_MEMBERS n ≡ false
 not_more n few = grind (arith, nat_tests)
 
-itself : (id : ℕ) → is_in_album id (Some id) ≡ true
-itself id = grind (arith, nat_tests)
-
 -- A new recording crowds an album that is full.
 pub crowds_new : (r : Recording) (album : Option ℕ) (rs : List Recording) → r.album ≡ album
     → find (λ (row : RecordingRow). row.id == r.id) (map recording_row rs) ≡ None
@@ -115,7 +121,7 @@ crowds_new r None rs is none = refl
 crowds_new r (Some id) rs is none =
     let count : member_count id (put recording_less (recording_row r) (map recording_row rs)) ≡ weight id (recording_row r) + member_count id (map recording_row rs) =
     count_new id (recording_row r) (map recording_row rs) none in
-    let inside : is_in_album id r.album ≡ true = ap (is_in_album id) is ∙ itself id in
+    let inside : is_in_album id r.album ≡ true = ap (is_in_album id) is ∙ test_itself id in
     let one : weight id (recording_row r) ≡ 1 = rw inside refl in
     crowded_count id r rs
     ∙ more_than (member_count id (put recording_less (recording_row r) (map recording_row rs))) (member_count id (map recording_row rs))
@@ -141,7 +147,7 @@ crowds_over r (Some id) old rs albums is rise found there few =
     count = count_over id (recording_row r) (map recording_row rs) old rise found
 
     one : weight id (recording_row r) ≡ 1
-    one = let inside : is_in_album id r.album ≡ true = ap (is_in_album id) is ∙ itself id in rw inside refl
+    one = let inside : is_in_album id r.album ≡ true = ap (is_in_album id) is ∙ test_itself id in rw inside refl
 
     by_old : (inside : Bool) → is_in_album id old.album ≡ inside → nat_lt MOST_MEMBERS after ≡ (not inside && nat_le MOST_MEMBERS before)
     by_old true inside =

@@ -1,11 +1,8 @@
 -- What an import does to the state, to the tables and to the files that blobs hold.
-use Rattle.std.proofs.Common.{◌≡◌, ℕ, ◌+◌, ◌<◌, Bool, true, Option, Some, List, [], ◌∷◌, ◌++◌, map, refl, sym, ap, ◌∙◌, subst, append-nil, arith, lt-ltb}
+use Rattle.std.proofs.Common.{◌≡◌, ℕ, ◌+◌, Bool, true, Option, Some, List, [], ◌∷◌, ◌++◌, map, refl, ap, ◌∙◌, arith, lt-ltb}
 use Rattle.std.specs.List.{AllByRecursion}
-use Rattle.std.proofs.lemmas.List.Elements.{filter-append}
 use Rattle.lib_base.specs.declared.files.Summary.{Summary}
 use Rattle.file_model.specs.Pcm.{Pcm}
-use Rattle.sound_model.specs.Albums.{IsAlbumSummary}
-use Rattle.library_model.specs.Findings.{Finds, measured}
 use Rattle.keeper_store.specs.Blobs.{Blobs, OthersKept}
 use Rattle.keeper_store.specs.Changes.{empty_tables, changed_all}
 use Rattle.keeper_store.specs.Puts.{put, recording_less, segments_less}
@@ -16,12 +13,10 @@ use Rattle.keeper_store.specs.declared.row_types.SegmentRow.{SegmentRow}
 use Rattle.keeper_store.proofs.Putting.{map-put, AllByRecursion-put}
 use Rattle.library_model.specs.Machine.{imported, new_recording}
 use Rattle.std.specs.Prelude.{fold}
-use Rattle.library_model.specs.Names.{is_name}
-use Rattle.library_model.specs.RowRules.{is_in_album}
-use Rattle.library_model.specs.Stands.{IsFound, IsSummed, IsValid, IsWithinLimit, HoldsFiles, album_row, measured_all, members, recording_row, reply_row, segment_row, segment_rows, tables_of}
-use Rattle.library_model.specs.InOrder.{AreInOrder, IsGiven}
-use Rattle.library_model.specs.State.{Recording, State, empty_state, numbers_end, recording_before}
-use Rattle.library_model.proofs.InOrderLemmas.{AllByRecursion-unmap, AreInOrder-import, empty-AreInOrder}
+use Rattle.library_model.specs.Stands.{IsValid, HoldsFiles, album_row, recording_row, reply_row, segment_row, segment_rows, tables_of}
+use Rattle.library_model.specs.InOrder.{IsGiven}
+use Rattle.library_model.specs.State.{Recording, State, empty_state, recording_before}
+use Rattle.library_model.proofs.InOrderLemmas.{AllByRecursion-unmap, empty-AreInOrder}
 
 -- ---- lists of which each element has a property
 

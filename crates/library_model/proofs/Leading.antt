@@ -1,5 +1,5 @@
 -- Batches that lead to the state that an accepted command makes.
-use Rattle.std.proofs.Common.{◌≡◌, ◌∙◌, ℕ, true, Option, None, Some, List, [], ◌∷◌, ◌++◌, map, refl, sym, ap, subst}
+use Rattle.std.proofs.Common.{◌≡◌, ◌∙◌, ℕ, true, Option, None, List, [], ◌∷◌, ◌++◌, map, refl, sym, ap, subst}
 use Rattle.std.specs.List.{AllByRecursion}
 use Rattle.keeper_store.specs.Changes.{changed, changed_all}
 use Rattle.keeper_store.specs.Puts.{Ascends, album_less}

@@ -1,5 +1,5 @@
 -- The batches of new albums and of albums that are removed.
-use Rattle.std.proofs.Common.{◌≡◌, ◌∙◌, ℕ, true, false, nat_le, nat_lt, Option, None, Some, List, [], ◌∷◌, length, refl, sym, ap, subst}
+use Rattle.std.proofs.Common.{◌≡◌, ◌∙◌, ℕ, true, false, nat_le, nat_lt, None, Some, List, [], ◌∷◌, length, refl, sym, ap, subst}
 use Rattle.std.specs.List.{AllByRecursion}
 use Rattle.keeper_store.specs.Changes.{next_numbers}
 use Rattle.keeper_store.specs.declared.contents.Change.TheVariants.{DropAlbum}
@@ -14,8 +14,7 @@ use Rattle.library_model.specs.declared.refusals.Refusal.TheVariants.{Ids, NotEm
 use Rattle.library_model.specs.Batches.{new_album_batch, new_album_changes, new_album_row, remove_album_batch}
 use Rattle.library_model.specs.Bodies.{album_row_reply, removed_reply}
 use Rattle.library_model.specs.InOrder.{AreInOrder}
-use Rattle.library_model.specs.Machine.{Sums, Verdict, album_reply, is_there, kept_under, makes, new_album, no_levels, remove_album_step, removing_album, with_new_album}
-use Rattle.library_model.specs.Names.{is_name}
+use Rattle.library_model.specs.Machine.{Sums, is_there, kept_under, makes, new_album, no_levels, remove_album_step, removing_album, with_new_album}
 use Rattle.library_model.specs.RowRules.{has_album, is_in_album, member_count}
 use Rattle.library_model.specs.Stands.{IsSummed, IsValid, measured_all, members, recording_row, tables_of}
 use Rattle.library_model.specs.State.{Album, Recording, State, album_before, numbers_end}

@@ -1,7 +1,6 @@
 -- The batch of an import.
-use Rattle.std.proofs.Common.{◌≡◌, ◌≢◌, ◌||◌, ◌∙◌, ℕ, true, false, nat_le, Option, None, Some, List, [], ◌∷◌, map, refl, sym, ap, subst, arith}
+use Rattle.std.proofs.Common.{◌≡◌, ◌≢◌, ◌||◌, ◌∙◌, ℕ, true, false, nat_le, Option, None, List, [], refl, sym, subst}
 use Rattle.std.specs.List.{AllByRecursion}
-use Rattle.lib_base.specs.declared.files.Measured.{Measured}
 use Rattle.lib_base.specs.declared.files.Summary.{Summary}
 use Rattle.file_model.specs.Pcm.{Pcm}
 use Rattle.keeper_store.specs.Changes.{changed_all, next_numbers}
@@ -17,27 +16,21 @@ use Rattle.library_model.specs.declared.refusals.Refusal.TheVariants.{AlbumFull,
 use Rattle.library_model.specs.Batches.{AreResummed, crowds, ids_in, import_batch, import_changes, import_row}
 use Rattle.library_model.specs.Bodies.{row_reply}
 use Rattle.library_model.specs.Findings.{Finds, measured, measured_of}
-use Rattle.library_model.specs.InOrder.{AreInOrder, IsGiven}
-use Rattle.library_model.specs.Machine.{OfFile, has_take, import_step, imported, is_crowded, is_there, kept_under, makes, new_recording, unless}
+use Rattle.library_model.specs.InOrder.{AreInOrder}
+use Rattle.library_model.specs.Machine.{OfFile, import_step, imported, is_crowded, is_there, kept_under, makes, new_recording, unless}
 use Rattle.library_model.specs.Names.{is_name}
 use Rattle.library_model.specs.RowRules.{album_is_there, is_in_album}
 use Rattle.library_model.specs.Stands.{IsSummed, IsValid, IsWithinLimit, tables_of}
 use Rattle.library_model.specs.State.{Recording, State, numbers_end, recording_before}
-use Rattle.library_model.proofs.Closing.{ButFor, Measures, is_among}
+use Rattle.library_model.proofs.Closing.{ButFor, Measures}
 use Rattle.library_model.proofs.Fitting.{import_crowds}
-use Rattle.library_model.proofs.Imports.{AllByRecursion-both, AllByRecursion-weaker, given_of, tables_of-imported}
+use Rattle.library_model.proofs.Imports.{AllByRecursion-weaker, tables_of-imported}
 use Rattle.library_model.proofs.Leading.{Leads, Makes, albums_rise, leads_closed, measures_made}
 use Rattle.library_model.proofs.MadeStates.{made_files, made_in_order, row-there}
 use Rattle.library_model.proofs.Members.{Resums-kept, ids_outside, members-put}
 use Rattle.library_model.proofs.Refusing.{of_limit, of_there}
 use Rattle.library_model.proofs.Steps.{MakesState}
-use Rattle.library_model.proofs.Taking.{gone, gone_none, put_keeps_takes}
-
--- no recording has the next id
-ids_below : (s : State) → IsValid s → AllByRecursion (λ (q : Recording). q.id ≢ s.next_recording) s.recordings
-ids_below s valid =
-    AllByRecursion-weaker (λ (q : Recording). IsGiven s.next_recording q.id) (λ (q : Recording). q.id ≢ s.next_recording) s.recordings
-    (λ q given same. omega (arith, given.1, same)) (given_of s valid).0
+use Rattle.library_model.proofs.TakesGone.{ids_below, import_takes}
 
 -- albums but the one that it is in keep their levels where a new recording comes
 import_others : (s : State) (new : Recording) → IsValid s → new.id ≡ s.next_recording
@@ -47,16 +40,6 @@ import_others s new valid is =
     (λ id outside. members-put id new s.recordings (ids_outside new.album id outside)
     (AllByRecursion-weaker (λ (q : Recording). q.id ≢ s.next_recording) (λ (q : Recording). q.id ≡ new.id → is_in_album id q.album ≡ false)
     s.recordings (λ q apart same. absurd (apart (same ∙ is))) (ids_below s valid))) valid.summed
-
--- and no take is gone
-import_takes : (s : State) (new : Recording) → IsValid s → new.id ≡ s.next_recording
-    → gone s.recordings (put recording_before new s.recordings) ≡ []
-import_takes s new valid is =
-    gone_none s.recordings (put recording_before new s.recordings)
-    (AllByRecursion-both (λ (q : Recording). q.id ≢ s.next_recording)
-    (λ (q : Recording). q.id ≢ new.id → has_take q.take (put recording_before new s.recordings) ≡ true)
-    (λ (q : Recording). has_take q.take (put recording_before new s.recordings) ≡ true) s.recordings
-    (λ q apart left. left (λ same. apart (same ∙ is))) (ids_below s valid) (put_keeps_takes new s.recordings))
 
 -- An import within the limits: its batch puts the counters, the segments, the recording, and the album that it comes into.
 pub import_leads : (s : State) (token mark : List ℕ) (album : Option ℕ) (name file : List ℕ) (sound : Pcm) (summary : Summary)

@@ -1,8 +1,7 @@
 -- The batch of a recording that comes into an album, or out of the one that it is in.
-use Rattle.std.proofs.Common.{◌≡◌, ◌≢◌, ◌==◌, ◌∙◌, ℕ, Bool, true, false, Option, None, Some, List, [], ◌∷◌, inl, inr, ◌⊎◌, map, refl, sym, ap, subst, arith}
+use Rattle.std.proofs.Common.{◌≡◌, ◌==◌, ◌∙◌, ℕ, true, false, Option, None, Some, List, [], ◌∷◌, inl, inr, ◌⊎◌, map, refl, sym, ap, subst}
 use Rattle.std.specs.List.{AllByRecursion, find}
-use Rattle.std.proofs.lemmas.Bool.Decides.{nat_tests}
-use Rattle.keeper_store.specs.Changes.{changed, changed_all}
+use Rattle.keeper_store.specs.Changes.{changed}
 use Rattle.keeper_store.specs.Puts.{put, recording_less}
 use Rattle.keeper_store.specs.declared.contents.Change.TheVariants.{PutRecording}
 use Rattle.keeper_store.specs.declared.contents.Tables.{Tables}
@@ -17,22 +16,21 @@ use Rattle.library_model.specs.declared.refusals.Refusal.TheVariants.{AlbumFull}
 use Rattle.library_model.specs.Batches.{AreResummed, closing, crowds, moved, regroup_batch, regroup_row}
 use Rattle.library_model.specs.Bodies.{row_reply}
 use Rattle.library_model.specs.InOrder.{AreInOrder}
-use Rattle.library_model.specs.Machine.{OfAlbum, Sums, Verdict, has_take, is_crowded, is_there, kept_under, makes, recording_of, regroup_step, regrouped, regrouping}
+use Rattle.library_model.specs.Machine.{OfAlbum, Sums, is_crowded, is_there, kept_under, makes, recording_of, regroup_step, regrouped, regrouping}
 use Rattle.library_model.specs.RowRules.{album_is_there, is_in_album}
 use Rattle.library_model.specs.Stands.{IsSummed, IsValid, members, recording_row, segment_rows, tables_of}
 use Rattle.library_model.specs.State.{Recording, State, recording_before}
-use Rattle.library_model.proofs.Closing.{ButFor, Measures, is_among}
+use Rattle.library_model.proofs.Closing.{ButFor, Measures}
 use Rattle.library_model.proofs.Fitting.{regroup_crowds}
-use Rattle.library_model.proofs.Imports.{AllByRecursion-both}
 use Rattle.library_model.proofs.Leading.{Leads, Makes, albums_rise, leads_closed, measures_made}
 use Rattle.library_model.proofs.Looking.{find_has, recording_there}
 use Rattle.library_model.proofs.MadeStates.{made_files, made_in_order, row-there}
-use Rattle.library_model.proofs.Members.{Resums-kept, all_found, members-put, moved_outside, only_found, put_found}
+use Rattle.library_model.proofs.Members.{Resums-kept, all_found, members-put, moved_outside, put_found}
 use Rattle.library_model.proofs.Refusing.{of_found, of_limit, of_there}
 use Rattle.library_model.proofs.RowsPut.{crowds_same, recordings_rise}
 use Rattle.library_model.proofs.SegmentChanges.{segment_rows-same}
 use Rattle.library_model.proofs.Steps.{MakesState}
-use Rattle.library_model.proofs.Taking.{gone, gone_none, put_keeps_takes, put_own_take}
+use Rattle.library_model.proofs.TakesGone.{regroup_takes}
 
 -- The tables with a recording in another album are the change of its row.
 pub tables_of-regrouping : (s : State) (id : ℕ) (album : Option ℕ) (r : Recording) → IsValid s → recording_of id s.recordings ≡ Some r
@@ -66,25 +64,6 @@ regroup_others s id album r valid found =
         members-put other (regrouped r album) s.recordings out.1
         (all_found (λ (q : Recording). is_in_album other q.album ≡ false) id s.recordings r (recordings_rise s valid) found out.0)
     by_move other (inr same) = ap (members other) (regrouped_same s id album r valid found same)
-
--- no take is gone
-regroup_takes : (s : State) (id : ℕ) (album : Option ℕ) (r : Recording) → IsValid s → recording_of id s.recordings ≡ Some r
-    → gone s.recordings (put recording_before (regrouped r album) s.recordings) ≡ []
-regroup_takes s id album r valid found =
-    gone_none s.recordings us
-    (AllByRecursion-both (λ (q : Recording). q.id ≡ r.id → q ≡ r) (λ (q : Recording). q.id ≢ r.id → has_take q.take us ≡ true)
-    (λ (q : Recording). has_take q.take us ≡ true) s.recordings (λ q one left. by_id q one left (q.id == r.id) refl)
-    (only_found id s.recordings r (recordings_rise s valid) found) (put_keeps_takes (regrouped r album) s.recordings))
-  where
-    us : List Recording
-    us = put recording_before (regrouped r album) s.recordings
-
-    by_id : (q : Recording) → (q.id ≡ r.id → q ≡ r) → (q.id ≢ r.id → has_take q.take us ≡ true) → (same : Bool) → (q.id == r.id) ≡ same
-        → has_take q.take us ≡ true
-    by_id q one left true is =
-        let equal : q.id ≡ r.id = grind (arith, nat_tests) in
-        ap (λ (x : Recording). has_take x.take us) (one equal) ∙ put_own_take (regrouped r album) s.recordings
-    by_id q one left false is = left (λ (equal : q.id ≡ r.id). grind (arith, nat_tests))
 
 -- a recording in another album leads to the state that has it there
 regroup_of : (s : State) (token mark : List ℕ) (id : ℕ) (album : Option ℕ) (r : Recording) (rows : List AlbumRow) → IsValid s

@@ -1,5 +1,5 @@
 -- The batch of a recording that is removed.
-use Rattle.std.proofs.Common.{◌≡◌, ◌≢◌, ◌==◌, ◌∙◌, ℕ, true, false, Option, None, Some, List, [], ◌∷◌, map, refl, sym, ap, subst}
+use Rattle.std.proofs.Common.{◌≡◌, ◌==◌, ◌∙◌, ℕ, false, None, Some, List, [], ◌∷◌, map, refl, sym, ap, subst}
 use Rattle.std.specs.List.{AllByRecursion, find}
 use Rattle.keeper_store.specs.Changes.{changed}
 use Rattle.keeper_store.specs.Puts.{recording_id, segments_take, without}
@@ -15,7 +15,7 @@ use Rattle.library_model.specs.declared.messages.Command.TheVariants.{RemoveReco
 use Rattle.library_model.specs.Batches.{AreResummed, ids_in, remove_batch}
 use Rattle.library_model.specs.Bodies.{removed_reply}
 use Rattle.library_model.specs.InOrder.{AreInOrder}
-use Rattle.library_model.specs.Machine.{Sums, has_take, kept_under, recording_of, remove_step, removing}
+use Rattle.library_model.specs.Machine.{Sums, kept_under, recording_of, remove_step, removing}
 use Rattle.library_model.specs.RowRules.{is_in_album}
 use Rattle.library_model.specs.Stands.{IsSummed, IsValid, recording_row, segment_rows, tables_of}
 use Rattle.library_model.specs.State.{Recording, State}
@@ -28,7 +28,7 @@ use Rattle.library_model.proofs.Refusing.{of_found}
 use Rattle.library_model.proofs.RowsPut.{Measures-drop, frees_without, recordings_rise, takes_of_others}
 use Rattle.library_model.proofs.SegmentChanges.{segment_rows-removed}
 use Rattle.library_model.proofs.Steps.{MakesState}
-use Rattle.library_model.proofs.Taking.{gone, gone_one, no_take, without_keeps_takes, without_others}
+use Rattle.library_model.proofs.TakesGone.{remove_takes}
 
 -- The tables without a recording are the changes of its rows.
 pub tables_of-removed : (s : State) (id : ℕ) (r : Recording) → IsValid s → recording_of id s.recordings ≡ Some r
@@ -50,14 +50,6 @@ remove_others s id r valid found =
     (λ album outside. members-without album r.id s.recordings
     (all_found (λ (q : Recording). is_in_album album q.album ≡ false) id s.recordings r (recordings_rise s valid) found
     (ids_outside r.album album outside))) valid.summed
-
--- its take is gone, and no other
-remove_takes : (s : State) (id : ℕ) (r : Recording) → IsValid s → recording_of id s.recordings ≡ Some r
-    → gone s.recordings (removing s r).recordings ≡ r.take ∷ []
-remove_takes s id r valid found =
-    gone_one id s.recordings (removing s r).recordings r (recordings_rise s valid) found (without_keeps_takes r.id s.recordings)
-    (no_take r.take (removing s r).recordings
-    (without_others (λ (q : Recording). q.id) (λ (q : Recording). q.take ≢ r.take) r.id s.recordings (takes_of_others s id r valid found)))
 
 -- a removal leads to the state without the recording
 remove_of : (s : State) (token mark : List ℕ) (id : ℕ) (r : Recording) (rows : List AlbumRow) → IsValid s → kept_under token s.replies ≡ None

@@ -1,12 +1,10 @@
 -- The batch of a recording with another file.
-use Rattle.std.proofs.Common.{◌≡◌, ◌≢◌, ◌+◌, ◌==◌, ◌∙◌, ◌++◌, ℕ, true, false, nat_le, Option, None, Some, List, [], ◌∷◌, map, refl, sym, ap, subst}
+use Rattle.std.proofs.Common.{◌≡◌, ◌≢◌, ◌+◌, ◌==◌, ◌∙◌, ◌++◌, ℕ, false, nat_le, None, Some, List, [], ◌∷◌, map, refl, sym, ap, subst}
 use Rattle.std.specs.List.{AllByRecursion, find}
-use Rattle.lib_base.specs.declared.files.Measured.{Measured}
 use Rattle.lib_base.specs.declared.files.Summary.{Summary}
 use Rattle.file_model.specs.Pcm.{Pcm}
 use Rattle.keeper_store.specs.Changes.{changed, changed_all, next_numbers}
 use Rattle.keeper_store.specs.Puts.{put, recording_less, segments_less, segments_take, without}
-use Rattle.keeper_store.specs.declared.contents.Change.{Change}
 use Rattle.keeper_store.specs.declared.contents.Change.TheVariants.{DropSegments}
 use Rattle.keeper_store.specs.declared.contents.NextNumbers.{NextNumbers}
 use Rattle.keeper_store.specs.declared.contents.Tables.{Tables}
@@ -16,13 +14,12 @@ use Rattle.keeper_store.specs.declared.row_types.SegmentRow.{SegmentRow}
 use Rattle.keeper_store.proofs.Putting.{map-put}
 use Rattle.library_model.specs.declared.messages.Command.{Command}
 use Rattle.library_model.specs.declared.messages.Command.TheVariants.{Retake}
-use Rattle.library_model.specs.declared.messages.Reply.{Reply}
 use Rattle.library_model.specs.declared.refusals.Refusal.TheVariants.{Ids}
 use Rattle.library_model.specs.Batches.{AreResummed, ids_in, retake_batch, retake_changes, retake_row}
 use Rattle.library_model.specs.Bodies.{row_reply}
 use Rattle.library_model.specs.Findings.{Finds, measured, measured_of}
 use Rattle.library_model.specs.InOrder.{AreInOrder}
-use Rattle.library_model.specs.Machine.{OfFile, has_take, kept_under, makes, recording_of, retake_step, retaken, retaking}
+use Rattle.library_model.specs.Machine.{OfFile, kept_under, makes, recording_of, retake_step, retaken, retaking}
 use Rattle.library_model.specs.RowRules.{is_in_album}
 use Rattle.library_model.specs.Stands.{IsSummed, IsValid, IsWithinLimit, album_row, recording_row, reply_row, segment_row, segment_rows, tables_of}
 use Rattle.library_model.specs.State.{Recording, State, numbers_end, recording_before}
@@ -35,7 +32,7 @@ use Rattle.library_model.proofs.Refusing.{of_found, of_limit}
 use Rattle.library_model.proofs.RowsPut.{Measures-drop, frees_put, next_differs, none_has_next, recordings_rise, takes_of_others}
 use Rattle.library_model.proofs.SegmentChanges.{segment_rows-retaken}
 use Rattle.library_model.proofs.Steps.{MakesState}
-use Rattle.library_model.proofs.Taking.{gone, gone_one, no_take, put_keeps_takes, put_others}
+use Rattle.library_model.proofs.TakesGone.{retake_takes}
 
 -- The tables with a recording under the next take are the changes of its rows.
 pub tables_of-retaking : (s : State) (id : ℕ) (r : Recording) (file : List ℕ) (sound : Pcm) (summary : Summary) → IsValid s
@@ -70,18 +67,6 @@ retake_others s id r new valid found same_id same_album =
     members-put album new s.recordings (ap (is_in_album album) same_album ∙ out) (subst (λ (n : ℕ).
     AllByRecursion (λ (q : Recording). q.id ≡ n → is_in_album album q.album ≡ false) s.recordings) (sym same_id)
     (all_found (λ (q : Recording). is_in_album album q.album ≡ false) id s.recordings r (recordings_rise s valid) found out))) valid.summed
-
--- its old take is gone, and no other
-retake_takes : (s : State) (id : ℕ) (r new : Recording) → IsValid s → recording_of id s.recordings ≡ Some r → new.id ≡ r.id → new.take ≢ r.take
-    → gone s.recordings (put recording_before new s.recordings) ≡ r.take ∷ []
-retake_takes s id r new valid found same differs =
-    gone_one id s.recordings (put recording_before new s.recordings) r (recordings_rise s valid) found
-    (subst (λ (n : ℕ). AllByRecursion (λ (q : Recording). q.id ≢ n → has_take q.take (put recording_before new s.recordings) ≡ true) s.recordings)
-    same (put_keeps_takes new s.recordings))
-    (no_take r.take (put recording_before new s.recordings)
-    (put_others (λ (q : Recording). q.id) (λ (q : Recording). q.take ≢ r.take) new s.recordings (recordings_rise s valid) differs
-    (subst (λ (n : ℕ). AllByRecursion (λ (q : Recording). q.id ≢ n → q.take ≢ r.take) s.recordings) (sym same)
-    (takes_of_others s id r valid found))))
 
 -- a new take of a recording leads to the state that has it
 retake_of : (s : State) (token mark : List ℕ) (id : ℕ) (r : Recording) (file : List ℕ) (sound : Pcm) (summary : Summary) (rows : List AlbumRow)

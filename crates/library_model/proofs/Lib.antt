@@ -7,6 +7,7 @@ pub mod Measuring
 pub mod Verdicts
 pub mod RowBounds
 pub mod Rows
+pub mod WorkedSteps
 pub mod WorkedRules
 pub mod WaveFiles
 pub mod SegmentRows
@@ -21,15 +22,17 @@ pub mod Exits
 pub mod Steps
 pub mod Resummed
 pub mod NextTables
+pub mod Numbers
 pub mod Counting
 pub mod MadeStates
 pub mod ValidSteps
+pub mod TakesOut
 pub mod Looking
 pub mod Fitting
 pub mod Members
 pub mod SegmentChanges
 pub mod Taking
-pub mod TakesOut
+pub mod TakesGone
 pub mod Statuses
 pub mod Leading
 pub mod RowsPut
@@ -40,3 +43,4 @@ pub mod LeadsRegroup
 pub mod LeadsRemove
 pub mod Refusing
 pub mod Closing
+pub mod Granting

@@ -9,7 +9,6 @@ use Rattle.keeper_store.specs.declared.row_types.AlbumRow.{AlbumRow}
 use Rattle.keeper_store.specs.declared.row_types.RecordingRow.{RecordingRow}
 use Rattle.keeper_store.specs.declared.row_types.ReplyRow.{ReplyRow}
 use Rattle.library_model.specs.declared.messages.Question.TheVariants as about
-use Rattle.library_model.specs.declared.messages.Reply.{Reply}
 use Rattle.library_model.specs.declared.refusals.Refusal.TheVariants.{NoAlbum, NoRecording}
 use Rattle.library_model.specs.Bodies.{album_row_reply, row_reply}
 use Rattle.library_model.specs.Machine.{album_of, found_album_reply, found_reply, ids_of, kept_under, question_reply, recording_of}

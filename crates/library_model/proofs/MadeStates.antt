@@ -1,13 +1,12 @@
 -- The states that commands make: their tables are in order, and their files are found to be their sounds.
-use Rattle.std.proofs.Common.{◌≡◌, ◌≢◌, ◌≤◌, ◌<◌, ◌+◌, ◌==◌, ◌||◌, true≢false, ℕ, Bool, true, false, cond, nat_lt, nat_le, Option, None, Some, List, [], ◌∷◌, length, map, refl, sym, ap, ◌∙◌, subst, arith}
+use Rattle.std.proofs.Common.{◌≡◌, ◌≢◌, ◌≤◌, ◌<◌, ◌+◌, ◌==◌, ◌||◌, ℕ, Bool, true, false, cond, nat_lt, nat_le, Option, None, Some, List, [], ◌∷◌, length, map, refl, sym, ap, ◌∙◌, subst, arith}
 use Rattle.std.specs.List.{AllByRecursion, find}
 use Rattle.std.proofs.lemmas.Bool.Decides.{nat_tests}
 use Rattle.lib_base.specs.declared.files.Summary.{Summary}
 use Rattle.file_model.specs.Pcm.{Pcm}
 use Rattle.keeper_store.specs.Changes.{changed}
-use Rattle.keeper_store.specs.Puts.{put, without, album_id, album_less, recording_id, recording_less}
+use Rattle.keeper_store.specs.Puts.{put, album_id, album_less, recording_id, recording_less}
 use Rattle.keeper_store.specs.declared.contents.Change.TheVariants.{Counters, PutAlbum, DropAlbum, DropRecording}
-use Rattle.keeper_store.specs.declared.contents.Tables.{Tables}
 use Rattle.keeper_store.specs.declared.row_types.AlbumRow.{AlbumRow}
 use Rattle.keeper_store.specs.declared.row_types.RecordingRow.{RecordingRow}
 use Rattle.keeper_store.proofs.Dropping.{AllByRecursion-without, map-without}
@@ -15,18 +14,17 @@ use Rattle.keeper_store.proofs.Putting.{AllByRecursion-put, AllByRecursion-weake
 use Rattle.library_model.specs.declared.limits.TheConstants.{MOST_MEMBERS}
 use Rattle.library_model.specs.declared.messages.Command.{Command}
 use Rattle.library_model.specs.declared.messages.Command.TheVariants.{NewAlbum, Import, Retake, Regroup, RemoveRecording, RemoveAlbum}
-use Rattle.library_model.specs.Findings.{Finds, measured}
 use Rattle.library_model.specs.InOrder.{AreInOrder, Differ, IsGiven}
 use Rattle.library_model.specs.Machine.{imported, is_crowded, is_there, new_album, new_recording, recording_of, regrouped, regrouping, removing, removing_album, retaken, retaking, with_new_album}
 use Rattle.library_model.specs.Names.{is_name}
-use Rattle.library_model.specs.RowRules.{album_is_there, has_album, is_in_album, member_count}
-use Rattle.library_model.specs.Stands.{BringsWithin, IsFound, IsValid, IsWithinLimit, album_row, members, recording_row, tables_of}
+use Rattle.library_model.specs.RowRules.{album_is_there, is_in_album, member_count}
+use Rattle.library_model.specs.Stands.{BringsWithin, IsFound, IsValid, album_row, members, recording_row, tables_of}
 use Rattle.library_model.specs.State.{Album, Recording, State, album_before, numbers_end, recording_before}
-use Rattle.library_model.proofs.Counting.{at_there, count-cons, weight}
+use Rattle.library_model.proofs.Counting.{at_there, count-cons, count_same, weight}
 use Rattle.library_model.proofs.Dropped.{AreInOrder-drop_album, AreInOrder-drop_recording}
 use Rattle.library_model.proofs.Imports.{AllByRecursion-both, AllByRecursion-weaker, given_of}
-use Rattle.library_model.proofs.InOrderLemmas.{AllByRecursion-map, AllByRecursion-unmap, AreInOrder-counters, AreInOrder-put_album}
-use Rattle.library_model.proofs.NextTables.{AreInOrder-segments, count_of-rows, few_by_test, few_over, found_has, has_album-row, others_differ, put_in_order}
+use Rattle.library_model.proofs.InOrderLemmas.{AllByRecursion-unmap, AreInOrder-counters, AreInOrder-put_album}
+use Rattle.library_model.proofs.NextTables.{AreInOrder-segments, count_of-rows, few_by_test, found_has, has_album-row, others_differ, put_in_order}
 use Rattle.library_model.proofs.Steps.{MakesState}
 use Rattle.library_model.proofs.ValidRows.{takes_of_rows}
 
@@ -169,8 +167,8 @@ retake_in_order s id r file sound summary valid found left =
     (next_take_differs s r.id valid) there has.name
     (AllByRecursion-weaken (λ (a : AlbumRow). member_count a.id (map recording_row s.recordings) ≤ MOST_MEMBERS)
     (λ (a : AlbumRow). member_count a.id (put recording_less new (map recording_row s.recordings)) ≤ MOST_MEMBERS)
-    (λ a few. let less = few_over a.id new (map recording_row s.recordings) (recording_row r) valid.rows.recordings own refl in
-    omega (arith, few, less)) (map album_row s.albums) valid.rows.few_members)
+    (λ a few. let same = count_same a.id new (map recording_row s.recordings) (recording_row r) valid.rows.recordings own refl in
+    omega (arith, few, same)) (map album_row s.albums) valid.rows.few_members)
 
 regroup_in_order : (s : State) (id : ℕ) (album : Option ℕ) (r : Recording) → IsValid s → recording_of id s.recordings ≡ Some r
     → is_there album s.albums ≡ true → is_crowded album (regrouping s r album).recordings ≡ false → AreInOrder (tables_of (regrouping s r album))

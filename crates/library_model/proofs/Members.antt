@@ -1,7 +1,6 @@
 -- The recordings of albums that a change leaves, and the levels that stay with them.
-use Rattle.std.proofs.Common.{◌≡◌, ◌≢◌, ◌==◌, ◌||◌, ◌∙◌, not, ℕ, Bool, true, false, cond, nat_lt, Option, None, Some, List, [], ◌∷◌, inl, inr, ◌⊎◌, refl, sym, ap, subst, arith, if◌then◌else◌}
+use Rattle.std.proofs.Common.{◌≡◌, ◌==◌, ◌||◌, ◌∙◌, not, ℕ, Bool, true, false, cond, nat_lt, Option, None, Some, List, [], ◌∷◌, inl, inr, ◌⊎◌, refl, sym, ap, subst, if◌then◌else◌}
 use Rattle.std.specs.List.{AllByRecursion}
-use Rattle.std.proofs.lemmas.Bool.Decides.{nat_tests}
 use Rattle.keeper_store.specs.Puts.{Ascends, put, without}
 use Rattle.sound_model.specs.Albums.{IsAlbumSummary}
 use Rattle.library_model.specs.Batches.{ids_in, moved}
@@ -11,17 +10,16 @@ use Rattle.library_model.specs.Stands.{IsSummed, measured_all, members}
 use Rattle.library_model.specs.State.{Album, Recording, recording_before}
 use Rattle.library_model.proofs.Closing.{ButFor, is_among}
 use Rattle.library_model.proofs.Imports.{AllByRecursion-weaker}
-use Rattle.library_model.proofs.Looking.{recording_named}
+use Rattle.library_model.proofs.Looking.{find_has, recording_named}
+use Rattle.library_model.proofs.Numbers.{below_differs, level_is, neither_below, or_neither, test_differs, test_is}
 
 -- ---- one recording of an id
 
--- a number below another is another one
-differs_below : (m n : ℕ) → nat_lt m n ≡ true → n ≢ m
-differs_below m n below same = grind (arith, nat_tests)
-
--- numbers that are not equal differ
-differs_by_test : (m n : ℕ) → (m == n) ≡ false → m ≢ n
-differs_by_test m n test same = grind (arith, nat_tests)
+-- a recording in front of the one that is found has a lesser id
+pub front_below : (id : ℕ) (x r : Recording) (rs : List Recording) → Ascends recording_before (x ∷ rs) → recording_of id rs ≡ Some r
+    → nat_lt x.id r.id ≡ true
+front_below id x r rs rise found =
+    (find_has (λ (q : Recording). q.id) (λ (q : Recording). nat_lt x.id q.id ≡ true) id rs r rise.0 found).0
 
 -- Of ascending recordings, the one that is found is the only one of its id.
 pub only_found : (id : ℕ) (rs : List Recording) (r : Recording) → Ascends recording_before rs → recording_of id rs ≡ Some r
@@ -37,10 +35,10 @@ only_found id (x ∷ rs) r rise found = cases (x.id == id) refl (only_found id r
         let same : x.id ≡ r.id = ap (λ (z : Recording). z.id) one in (
           λ _. one,
           AllByRecursion-weaker (λ (q : Recording). nat_lt x.id q.id ≡ true) (λ (q : Recording). q.id ≡ r.id → q ≡ r) rs
-              (λ q above equal. absurd (differs_below x.id q.id above (equal ∙ sym same))) rise.0,
+              (λ q above equal. absurd (below_differs x.id q.id above (same ∙ sym equal))) rise.0,
         )
     cases false is rest found =
-        (λ equal. absurd (differs_by_test x.id id is (equal ∙ recording_named id rs r found)), rest found)
+        (λ equal. absurd (test_differs x.id id is (equal ∙ recording_named id rs r found)), rest found)
 
 -- So what it has, each one of its id has.
 pub all_found : (P : Recording → Type 0) (id : ℕ) (rs : List Recording) (r : Recording) → Ascends recording_before rs
@@ -55,26 +53,13 @@ pub put_found : (id : ℕ) (rs : List Recording) (r : Recording) → Ascends rec
 put_found id [] r rise found = absurd (cc found)
 put_found id (x ∷ rs) r rise found = cases (x.id == id) refl (put_found id rs r rise.1) found
   where
-    level : (n : ℕ) → nat_lt n n ≡ false
-    level n = grind (arith, nat_tests)
-
-    above : (rest : List Recording) → AllByRecursion (λ (q : Recording). nat_lt x.id q.id ≡ true) rest → recording_of id rest ≡ Some r
-        → nat_lt x.id r.id ≡ true
-    above [] rise found = absurd (cc found)
-    above (q ∷ rest) rise found = one (q.id == id) (above rest rise.1) found
-      where
-        one : (here : Bool) → (recording_of id rest ≡ Some r → nat_lt x.id r.id ≡ true)
-            → cond here (Some q) (recording_of id rest) ≡ Some r → nat_lt x.id r.id ≡ true
-        one true back found = let same : q ≡ r = cc found in subst (λ (z : Recording). nat_lt x.id z.id ≡ true) same rise.0
-        one false back found = back found
-
     cases : (here : Bool) → (x.id == id) ≡ here → (recording_of id rs ≡ Some r → put recording_before r rs ≡ rs)
         → cond here (Some x) (recording_of id rs) ≡ Some r → put recording_before r (x ∷ rs) ≡ x ∷ rs
     cases true is rest found =
         let one : x ≡ r = cc found in
-        subst (λ (z : Recording). put recording_before z (x ∷ rs) ≡ x ∷ rs) one (rw (level x.id) refl)
+        subst (λ (z : Recording). put recording_before z (x ∷ rs) ≡ x ∷ rs) one (rw (neither_below x.id x.id refl).0 refl)
     cases false is rest found =
-        rw (above rs rise.0 found) (ap (λ (l : List Recording). x ∷ l) (rest found))
+        rw (front_below id x r rs rise found) (ap (λ (l : List Recording). x ∷ l) (rest found))
 
 -- ---- members
 
@@ -86,16 +71,13 @@ members-put id r [] outside own = rw outside refl
 members-put id r (x ∷ rs) outside own =
     cases (nat_lt x.id r.id) (nat_lt r.id x.id) refl refl (members-put id r rs outside own.1)
   where
-    level : nat_lt x.id r.id ≡ false → nat_lt r.id x.id ≡ false → x.id ≡ r.id
-    level below above = grind (arith, nat_tests)
-
     cases : (first second : Bool) → nat_lt x.id r.id ≡ first → nat_lt r.id x.id ≡ second
         → members id (put recording_before r rs) ≡ members id rs
         → members id (cond first (x ∷ put recording_before r rs) (cond second (r ∷ x ∷ rs) (r ∷ rs))) ≡ members id (x ∷ rs)
     cases true second below above rest = ap (λ (l : List Recording). cond (is_in_album id x.album) (x ∷ l) l) rest
     cases false true below above rest = rw outside refl
     cases false false below above rest =
-        let also : is_in_album id x.album ≡ false = own.0 (level below above) in rw (outside, also) refl
+        let also : is_in_album id x.album ≡ false = own.0 (level_is x.id r.id below above) in rw (outside, also) refl
 
 -- Recordings that are taken out, none of which is in an album, leave its members.
 pub members-without : (id n : ℕ) (rs : List Recording) → AllByRecursion (λ (q : Recording). q.id ≡ n → is_in_album id q.album ≡ false) rs
@@ -103,13 +85,10 @@ pub members-without : (id n : ℕ) (rs : List Recording) → AllByRecursion (λ 
 members-without id n [] own = refl
 members-without id n (x ∷ rs) own = cases (x.id == n) refl (members-without id n rs own.1)
   where
-    equal : (x.id == n) ≡ true → x.id ≡ n
-    equal is = grind (arith, nat_tests)
-
     cases : (here : Bool) → (x.id == n) ≡ here → members id (without (λ (q : Recording). q.id) n rs) ≡ members id rs
         → members id (cond (not here) (x ∷ without (λ (q : Recording). q.id) n rs) (without (λ (q : Recording). q.id) n rs))
         ≡ members id (x ∷ rs)
-    cases true is rest = let also : is_in_album id x.album ≡ false = own.0 (equal is) in rw also rest
+    cases true is rest = let also : is_in_album id x.album ≡ false = own.0 (test_is x.id n is) in rw also rest
     cases false is rest = ap (λ (l : List Recording). cond (is_in_album id x.album) (x ∷ l) l) rest
 
 -- ---- levels
@@ -124,28 +103,24 @@ Resums-kept rs us ids albums same summed =
 
 -- ---- which albums change
 
-or_false : (b other : Bool) → (b || other) ≡ false → (b ≡ false) × (other ≡ false)
-or_false true other is = absurd (cc is)
-or_false false other is = (refl, is)
-
 -- another album than the one that is named has nothing of it
 pub ids_outside : (album : Option ℕ) (id : ℕ) → is_among id (ids_in album) ≡ false → is_in_album id album ≡ false
 ids_outside None id outside = refl
-ids_outside (Some a) id outside = (or_false (a == id) false outside).0
+ids_outside (Some a) id outside = (or_neither (a == id) false outside).0
 
 -- nor of the two between which a recording moves, where these differ
 pub moved_outside : (from to : Option ℕ) (id : ℕ) → is_among id (moved from to) ≡ false
     → ((is_in_album id from ≡ false) × (is_in_album id to ≡ false)) ⊎ (from ≡ to)
 moved_outside None to id outside = inl (refl, ids_outside to id outside)
-moved_outside (Some from) None id outside = inl ((or_false (from == id) false outside).0, refl)
+moved_outside (Some from) None id outside = inl ((or_neither (from == id) false outside).0, refl)
 moved_outside (Some from) (Some to) id outside = by_test (from == to) (nat_lt from to) refl outside
   where
     same : (from == to) ≡ true → Some from ≡ Some to
-    same is = let one : from ≡ to = grind (arith, nat_tests) in ap (λ (n : ℕ). Some n) one
+    same is = ap (λ (n : ℕ). Some n) (test_is from to is)
 
     both : (m n : ℕ) → is_among id (m ∷ n ∷ []) ≡ false → ((m == id) ≡ false) × ((n == id) ≡ false)
     both m n outside =
-        let first = or_false (m == id) ((n == id) || false) outside in (first.0, (or_false (n == id) false first.1).0)
+        let first = or_neither (m == id) ((n == id) || false) outside in (first.0, (or_neither (n == id) false first.1).0)
 
     by_test : (equal below : Bool) → (from == to) ≡ equal
         → is_among id (if equal then [] else if below then from ∷ to ∷ [] else to ∷ from ∷ []) ≡ false

@@ -1,28 +1,27 @@
 -- The tables of states that commands make are in order.
-use Rattle.std.proofs.Common.{◌≡◌, ◌≢◌, ◌≤◌, ◌<◌, ◌+◌, ◌==◌, ◌||◌, true≢false, ℕ, Bool, true, false, not, cond, nat_lt, nat_le, Option, None, Some, List, [], ◌∷◌, length, map, refl, sym, ap, ◌∙◌, subst, arith}
+use Rattle.std.proofs.Common.{◌≡◌, ◌≢◌, ◌≤◌, ◌+◌, ◌==◌, ◌||◌, true≢false, ℕ, Bool, true, false, cond, nat_lt, Option, None, Some, List, [], ◌∷◌, length, map, refl, sym, ap, ◌∙◌, subst, arith}
 use Rattle.std.specs.Prelude.{count_by}
-use Rattle.std.specs.List.{AllByRecursion, find}
+use Rattle.std.specs.List.{AllByRecursion}
 use Rattle.std.proofs.lemmas.Bool.Decides.{nat_tests}
 use Rattle.std.proofs.lemmas.List.Sums.{length-filter, sum_by-cons}
 use Rattle.keeper_store.specs.Changes.{changed}
 use Rattle.keeper_store.specs.Orders.{segments_in_order}
-use Rattle.keeper_store.specs.Puts.{Ascends, put, without, album_id, album_less, recording_id, recording_less, segments_less}
-use Rattle.keeper_store.specs.declared.contents.Change.TheVariants.{Counters, PutAlbum, PutRecording, DropAlbum, DropRecording}
+use Rattle.keeper_store.specs.Puts.{Ascends, put, recording_less, segments_less}
+use Rattle.keeper_store.specs.declared.contents.Change.TheVariants.{Counters, PutRecording}
 use Rattle.keeper_store.specs.declared.contents.Tables.{Tables}
 use Rattle.keeper_store.specs.declared.row_types.AlbumRow.{AlbumRow}
 use Rattle.keeper_store.specs.declared.row_types.RecordingRow.{RecordingRow}
 use Rattle.keeper_store.specs.declared.row_types.SegmentRow.{SegmentRow}
-use Rattle.keeper_store.proofs.Dropping.{map-without}
 use Rattle.keeper_store.proofs.Putting.{AllByRecursion-weaken, Ascends-put, map-put}
 use Rattle.library_model.specs.declared.limits.TheConstants.{MOST_MEMBERS}
 use Rattle.library_model.specs.InOrder.{AreInOrder, Differ, IsCounter, IsGiven}
 use Rattle.library_model.specs.Machine.{is_crowded, is_there, recording_of}
 use Rattle.library_model.specs.Names.{is_name}
 use Rattle.library_model.specs.RowRules.{album_is_there, has_album, is_in_album, member_count}
-use Rattle.library_model.specs.Stands.{IsValid, album_row, members, recording_row, reply_row, segment_row, segment_rows, tables_of}
-use Rattle.library_model.specs.State.{Album, Recording, State, album_before, numbers_end, recording_before}
-use Rattle.library_model.proofs.Dropped.{AreInOrder-drop_album, AreInOrder-drop_recording}
-use Rattle.library_model.proofs.InOrderLemmas.{AllByRecursion-map, AllByRecursion-unmap, AreInOrder-counters, AreInOrder-put_album, AreInOrder-put_recording, count_by-put}
+use Rattle.library_model.specs.Stands.{IsValid, album_row, members, recording_row, segment_row, segment_rows, tables_of}
+use Rattle.library_model.specs.State.{Album, Recording, State, recording_before}
+use Rattle.library_model.proofs.InOrderLemmas.{AllByRecursion-map, AllByRecursion-unmap, AreInOrder-counters, AreInOrder-put_recording, count_by-put}
+use Rattle.library_model.proofs.Looking.{find_has}
 use Rattle.library_model.proofs.SegmentRows.{AllByRecursion-rows_with, rows_with}
 
 -- ---- segments
@@ -65,16 +64,7 @@ AreInOrder-segments t recordings same are = record {
 -- a recording that was found has the id, and what all have
 pub found_has : (P : Recording → Type 0) (id : ℕ) (rs : List Recording) (r : Recording) → AllByRecursion P rs
     → recording_of id rs ≡ Some r → P r × (r.id ≡ id)
-found_has P id [] r all is = absurd (cc is)
-found_has P id (q ∷ rs) r all is = cases (q.id == id) refl (found_has P id rs r all.1) is
-  where
-    cases : (here : Bool) → (q.id == id) ≡ here → (recording_of id rs ≡ Some r → P r × (r.id ≡ id))
-        → cond here (Some q) (recording_of id rs) ≡ Some r → P r × (r.id ≡ id)
-    cases true same rest is =
-        let one : q ≡ r = cc is in
-        let named : q.id ≡ id = grind (arith, nat_tests) in
-        (subst P one all.0, sym (ap (λ (x : Recording). x.id) one) ∙ named)
-    cases false same rest is = rest is
+found_has P id rs r = find_has (λ (q : Recording). q.id) P id rs r
 
 -- an album that is there has its row
 pub has_album-row : (id : ℕ) (albums : List Album) → has_album id (map album_row albums) ≡ is_there (Some id) albums
@@ -137,64 +127,6 @@ few_by_test r rs albums few room =
         count_by-put (λ (row : RecordingRow). is_in_album id row.album) recording_less (recording_row r) rows in
         let same = rw inside at grown in
         omega (arith, few, same)
-
--- of two numbers one test holds
-pub less_or_same : (m n : ℕ) → nat_lt m n ≡ true → (m == n) ≡ true → ⊥
-less_or_same m n less same =
-    let one : m < n = grind (arith, nat_tests) in let other : m ≡ n = grind (arith, nat_tests) in omega (arith, one, other)
-
-pub more_or_same : (m n : ℕ) → nat_lt n m ≡ true → (m == n) ≡ true → ⊥
-more_or_same m n more same =
-    let one : n < m = grind (arith, nat_tests) in let other : m ≡ n = grind (arith, nat_tests) in omega (arith, one, other)
-
-pub neither : (m n : ℕ) → nat_lt m n ≡ false → nat_lt n m ≡ false → (m == n) ≡ false → ⊥
-neither m n less more same =
-    let one : n ≤ m = grind (arith, nat_tests) in
-    let other : m ≤ n = grind (arith, nat_tests) in
-    let apart : m ≢ n = grind (arith, nat_tests) in apart (omega (arith, one, other))
-
--- what one recording counts
-abbrev weight_of : Bool → ℕ
-weight_of inside = cond inside 1 0
-
--- a row put over one of its id and of its album changes no count
-pub few_over : (id : ℕ) (row : RecordingRow) (rows : List RecordingRow) (old : RecordingRow) → Ascends recording_less rows
-    → find (λ (r : RecordingRow). r.id == row.id) rows ≡ Some old → is_in_album id old.album ≡ is_in_album id row.album
-    → member_count id (put recording_less row rows) ≤ member_count id rows
-few_over id row [] old rise found same = absurd (cc found)
-few_over id row (x ∷ rows) old rise found same =
-    cases (nat_lt x.id row.id) (nat_lt row.id x.id) (x.id == row.id) refl refl refl
-    (few_over id row rows old rise.1) found
-  where
-    one : (r : RecordingRow) (rs : List RecordingRow)
-        → member_count id (r ∷ rs) ≡ cond (is_in_album id r.album) 1 0 + member_count id rs
-    one = sum_by-cons (λ (r : RecordingRow). cond (is_in_album id r.album) 1 0)
-
-    later : (rs : List RecordingRow) → nat_lt row.id x.id ≡ true → AllByRecursion (λ (s : RecordingRow). nat_lt x.id s.id ≡ true) rs
-        → find (λ (r : RecordingRow). r.id == row.id) rs ≡ Some old → ⊥
-    later [] above rise found = absurd (cc found)
-    later (s ∷ rs) above rise found =
-        let after = rise.0 in
-        let other : (s.id == row.id) ≡ false = grind (arith, nat_tests) in
-        later rs above rise.1 (rw other at found)
-
-    cases : (first second here : Bool) → nat_lt x.id row.id ≡ first → nat_lt row.id x.id ≡ second → (x.id == row.id) ≡ here
-        → (find (λ (r : RecordingRow). r.id == row.id) rows ≡ Some old → is_in_album id old.album ≡ is_in_album id row.album
-        → member_count id (put recording_less row rows) ≤ member_count id rows)
-        → cond here (Some x) (find (λ (r : RecordingRow). r.id == row.id) rows) ≡ Some old
-        → member_count id (cond first (x ∷ put recording_less row rows) (cond second (row ∷ x ∷ rows) (row ∷ rows)))
-        ≤ member_count id (x ∷ rows)
-    cases true second true below above is rest found = absurd (less_or_same x.id row.id below is)
-    cases true second false below above is rest found =
-        let fewer = rest found same in omega (arith, fewer, one x (put recording_less row rows), one x rows)
-    cases false true true below above is rest found = absurd (more_or_same x.id row.id above is)
-    cases false true false below above is rest found = absurd (later rows above rise.0 found)
-    cases false false false below above is rest found = absurd (neither x.id row.id below above is)
-    cases false false true below above is rest found =
-        let this : x ≡ old = cc found in
-        let alike : is_in_album id x.album ≡ is_in_album id row.album = ap (λ (r : RecordingRow). is_in_album id r.album) this ∙ same in
-        let weight : weight_of (is_in_album id x.album) ≡ weight_of (is_in_album id row.album) = ap weight_of alike in
-        let level : member_count id (row ∷ rows) ≤ member_count id (x ∷ rows) = omega (arith, weight, one x rows, one row rows) in level
 
 -- ---- takes of others
 

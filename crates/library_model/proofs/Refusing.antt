@@ -12,12 +12,12 @@ use Rattle.library_model.specs.declared.refusals.Refusal.{Refusal}
 use Rattle.library_model.specs.declared.refusals.Refusal.TheVariants.{NoRecording, NoAlbum, NotEmpty, AlbumFull, Ids}
 use Rattle.library_model.specs.Asked.{change, command}
 use Rattle.library_model.specs.Batches.{crowds}
-use Rattle.library_model.specs.Findings.{Finding, Finds, broken_by, measured}
+use Rattle.library_model.specs.Findings.{Finds, broken_by, measured}
 use Rattle.library_model.specs.Machine.{Decides, DecidesChange, DecidesCommand, OfAlbum, OfFile, OfRecording, Step, Sums, Verdict, album_reply, import_step, imported, is_crowded, is_there, kept_under, makes, new_album, new_recording, recording_of, recording_reply, regroup_step, regrouped, regrouping, remove_album_step, remove_step, removing_album, retake_step, retaken, retaking, stays, unless, with_new_album}
 use Rattle.library_model.specs.Bodies.{removed_reply}
 use Rattle.library_model.specs.Replies.{format_refusal, refusal}
 use Rattle.library_model.specs.RowRules.{album_is_there, has_album, member_count}
-use Rattle.library_model.specs.Stands.{IsValid, members, recording_row, tables_of}
+use Rattle.library_model.specs.Stands.{IsValid, members, tables_of}
 use Rattle.library_model.specs.State.{Kept, Recording, State, numbers_end}
 use Rattle.library_model.proofs.Fitting.{import_crowds, regroup_crowds}
 use Rattle.library_model.proofs.Looking.{recording_missing, recording_there}

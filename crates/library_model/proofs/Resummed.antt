@@ -1,5 +1,5 @@
 -- Tables in order stay so where albums get other levels.
-use Rattle.std.proofs.Common.{◌≡◌, ◌≤◌, ◌==◌, ◌||◌, ℕ, Bool, true, false, Option, None, Some, List, [], ◌∷◌, map, refl, sym, ap, ◌∙◌, subst}
+use Rattle.std.proofs.Common.{◌≡◌, ◌≤◌, ◌==◌, ◌||◌, ℕ, Bool, true, Option, None, Some, List, [], ◌∷◌, map, refl, sym, ap, ◌∙◌, subst}
 use Rattle.std.specs.List.{AllByRecursion}
 use Rattle.keeper_store.specs.Puts.{Ascends, album_less}
 use Rattle.keeper_store.specs.declared.contents.Tables.{Tables}

@@ -19,7 +19,8 @@ use Rattle.library_model.specs.Findings.{Finds, measured, broken_by}
 use Rattle.library_model.specs.declared.messages.Reply.{Reply}
 use Rattle.library_model.specs.declared.refusals.Refusal.TheVariants.{Vault, Keeper}
 use Rattle.library_model.specs.declared.messages.Question.TheVariants as about
-use Rattle.library_model.specs.Machine.{import_step, imported, keeping, kept_under, makes, question_reply, recording_of, recording_reply, refuses, repeat_reply, accepts, stays}
+use Rattle.library_model.specs.Asked.{change, malformed}
+use Rattle.library_model.specs.Machine.{Decides, import_step, imported, keeping, kept_under, makes, question_reply, recording_of, recording_reply, refuses, repeat_reply, accepts, stays}
 use Rattle.library_model.specs.Replies.{json, format_refusal, refusal}
 use Rattle.library_model.specs.InOrder.{IsGiven}
 use Rattle.library_model.specs.Stands.{IsValid, recording_row}
@@ -187,3 +188,13 @@ kept_under-token = (refl, refl)
 pub repeat_reply-marks : (repeat_reply (7 ∷ []) row_kept ≡ row_reply)
     × (repeat_reply (8 ∷ []) row_kept ≡ json 409 (codes "{\"error\":\"token-used\"}"))
 repeat_reply-marks = (refl, refl)
+
+-- The state that keeps it.
+abbrev row_keeping : State
+row_keeping = record empty_state { replies = row_kept ∷ [] }
+
+-- So a repeat is answered, whatever it asks, another request with the token is refused, and under another token what is asked is decided.
+pub Decides-tokens : Decides row_keeping (change (codes "t1") (7 ∷ []) (malformed (refusal Vault))) (stays row_reply)
+    × Decides row_keeping (change (codes "t1") (8 ∷ []) (malformed (refusal Vault))) (stays (json 409 (codes "{\"error\":\"token-used\"}")))
+    × Decides row_keeping (change (codes "t2") (7 ∷ []) (malformed (refusal Vault))) (stays (refusal Vault))
+Decides-tokens = (refl, refl, refl)

@@ -1,12 +1,11 @@
 -- What a recording that is put, or taken out, finds in the tables.
-use Rattle.std.proofs.Common.{◌≡◌, ◌≢◌, ◌≤◌, ◌<◌, ◌+◌, ◌==◌, ◌&&◌, ◌∙◌, not, true≢false, ℕ, Bool, true, false, cond, nat_lt, nat_le, Option, None, Some, List, [], ◌∷◌, map, refl, sym, ap, subst, arith}
+use Rattle.std.proofs.Common.{◌≡◌, ◌≢◌, ◌≤◌, ◌<◌, ◌+◌, ◌==◌, ◌&&◌, ◌∙◌, not, true≢false, ℕ, Bool, true, false, cond, nat_le, Option, None, Some, List, [], ◌∷◌, map, refl, sym, ap, subst, arith}
 use Rattle.std.specs.List.{AllByRecursion, find}
 use Rattle.std.proofs.lemmas.Bool.Decides.{nat_tests}
 use Rattle.lib_base.specs.declared.files.Measured.{Measured}
 use Rattle.lib_base.specs.declared.files.Summary.{Summary}
-use Rattle.file_model.specs.Pcm.{Pcm}
 use Rattle.keeper_store.specs.Changes.{changed, next_numbers}
-use Rattle.keeper_store.specs.EnergyBytes.{energies_in, row_bytes}
+use Rattle.keeper_store.specs.EnergyBytes.{energies_in}
 use Rattle.keeper_store.specs.Puts.{Ascends, put, without, recording_id, recording_less, segments_less, segments_take}
 use Rattle.keeper_store.specs.declared.contents.Change.TheVariants.{DropSegments, PutSegments}
 use Rattle.keeper_store.specs.declared.contents.Tables.{Tables}
@@ -17,7 +16,7 @@ use Rattle.keeper_store.proofs.EnergyRows.{energies_in-row_bytes}
 use Rattle.sound_model.specs.Summaries.{IsWithinBounds}
 use Rattle.library_model.specs.declared.limits.TheConstants.{MOST_MEMBERS}
 use Rattle.library_model.specs.Batches.{crowds, import_row, regroup_row, retake_row}
-use Rattle.library_model.specs.InOrder.{AreInOrder, Differ, IsGiven}
+use Rattle.library_model.specs.InOrder.{Differ, IsGiven}
 use Rattle.library_model.specs.Machine.{recording_of}
 use Rattle.library_model.specs.RowRules.{album_is_there, energies_of_take, is_in_album, measured_in, member_count, members_in}
 use Rattle.library_model.specs.Stands.{IsValid, recording_row, segments_of, tables_of}

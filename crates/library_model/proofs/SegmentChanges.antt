@@ -1,5 +1,5 @@
 -- The rows of segments of a state of which a recording changes.
-use Rattle.std.proofs.Common.{◌≡◌, ◌≢◌, ◌==◌, ◌<◌, ◌≤◌, ◌∙◌, not, true≢false, ℕ, Bool, true, false, cond, nat_lt, Option, None, Some, List, [], ◌∷◌, map, refl, sym, ap, subst, arith}
+use Rattle.std.proofs.Common.{◌≡◌, ◌≢◌, ◌==◌, ◌∙◌, not, ℕ, Bool, true, false, cond, nat_lt, Option, None, Some, List, [], ◌∷◌, refl, sym, ap, subst, arith}
 use Rattle.std.specs.List.{AllByRecursion}
 use Rattle.std.proofs.lemmas.Bool.Decides.{nat_tests}
 use Rattle.keeper_store.specs.Orders.{segments_in_order}
@@ -11,7 +11,8 @@ use Rattle.library_model.specs.Machine.{recording_of}
 use Rattle.library_model.specs.Stands.{segment_row, segment_rows}
 use Rattle.library_model.specs.State.{Recording, recording_before}
 use Rattle.library_model.proofs.Imports.{AllByRecursion-weaker}
-use Rattle.library_model.proofs.NextTables.{found_has}
+use Rattle.library_model.proofs.Members.{front_below}
+use Rattle.library_model.proofs.Numbers.{below_differs, neither_below, test_differs, test_is, test_itself}
 use Rattle.library_model.proofs.SegmentRows.{of_take, of_take-other, of_take-put, rows_with}
 
 -- ---- ascending rows are told apart by what is found under takes
@@ -100,17 +101,13 @@ found_others take out (s ∷ rows) differs = cases (s.take == out) refl (found_o
     cases true is rest = let other : (s.take == take) ≡ false = unlike is in rw other rest
     cases false is rest = ap (λ (o : Option SegmentRow). cond (s.take == take) (Some s) o) rest
 
--- two takes are one or differ
-equal_or : (m n : ℕ) (same : Bool) → (m == n) ≡ same → (same ≡ true → m ≡ n) × (same ≡ false → m ≢ n)
-equal_or m n same is = (λ yes. grind (arith, nat_tests), λ no equal. grind (arith, nat_tests))
-
 -- what is found under a take where a row is put
 found_put : (take : ℕ) (row : SegmentRow) (rows : List SegmentRow) (same : Bool) → (row.take == take) ≡ same
     → of_take take (put segments_less row rows) ≡ cond same (Some row) (of_take take rows)
 found_put take row rows true is =
-    let one : row.take ≡ take = (equal_or row.take take true is).0 refl in
+    let one : row.take ≡ take = test_is row.take take is in
     subst (λ (n : ℕ). of_take n (put segments_less row rows) ≡ Some row) one (of_take-put row rows)
-found_put take row rows false is = of_take-other take row rows ((equal_or row.take take false is).1 refl)
+found_put take row rows false is = of_take-other take row rows (test_differs row.take take is)
 
 -- ---- puts and drops of other takes change places
 
@@ -125,7 +122,7 @@ put-put a b rows differs rise =
   where
     at : (take : ℕ) (first second : Bool) → (a.take == take) ≡ first → (b.take == take) ≡ second
         → of_take take (put segments_less a (put segments_less b rows)) ≡ of_take take (put segments_less b (put segments_less a rows))
-    at take true true is also = absurd (differs ((equal_or a.take take true is).0 refl ∙ sym ((equal_or b.take take true also).0 refl)))
+    at take true true is also = absurd (differs (test_is a.take take is ∙ sym (test_is b.take take also)))
     at take true false is also =
         found_put take a (put segments_less b rows) true is
         ∙ sym (found_put take b (put segments_less a rows) false also ∙ found_put take a rows true is)
@@ -144,14 +141,14 @@ without-put out row rows differs rise =
   where
     at : (take : ℕ) (gone own : Bool) → (out == take) ≡ gone → (row.take == take) ≡ own
         → of_take take (without segments_take out (put segments_less row rows)) ≡ of_take take (put segments_less row (without segments_take out rows))
-    at take true true is also = absurd (differs ((equal_or row.take take true also).0 refl ∙ sym ((equal_or out take true is).0 refl)))
+    at take true true is also = absurd (differs (test_is row.take take also ∙ sym (test_is out take is)))
     at take true false is also =
-        let one : out ≡ take = (equal_or out take true is).0 refl in
+        let one : out ≡ take = test_is out take is in
         subst (λ (n : ℕ). of_take n (without segments_take out (put segments_less row rows)) ≡ None) one (found_without out (put segments_less row rows))
         ∙ sym (found_put take row (without segments_take out rows) false also
         ∙ subst (λ (n : ℕ). of_take n (without segments_take out rows) ≡ None) one (found_without out rows))
     at take false own is also =
-        let apart : take ≢ out = λ equal. (equal_or out take false is).1 refl (sym equal) in
+        let apart : take ≢ out = λ equal. test_differs out take is (sym equal) in
         found_others take out (put segments_less row rows) apart ∙ found_put take row rows own also
         ∙ sym (found_put take row (without segments_take out rows) own also
         ∙ ap (λ (o : Option SegmentRow). cond own (Some row) o) (found_others take out rows apart))
@@ -181,11 +178,11 @@ without-own row rows rise others =
     at : (take : ℕ) (own : Bool) → (row.take == take) ≡ own
         → of_take take (without segments_take row.take (put segments_less row rows)) ≡ of_take take rows
     at take true is =
-        let one : row.take ≡ take = (equal_or row.take take true is).0 refl in
+        let one : row.take ≡ take = test_is row.take take is in
         subst (λ (n : ℕ). of_take n (without segments_take row.take (put segments_less row rows)) ≡ of_take n rows) one
         (found_without row.take (put segments_less row rows) ∙ sym (none rows others))
     at take false is =
-        let apart : take ≢ row.take = λ equal. (equal_or row.take take false is).1 refl (sym equal) in
+        let apart : take ≢ row.take = λ equal. test_differs row.take take is (sym equal) in
         found_others take row.take (put segments_less row rows) apart ∙ found_put take row rows false is
 
 -- ---- the rows of recordings
@@ -211,18 +208,6 @@ without-rows_with out rows (r ∷ rs) rise others =
     ∙ ap (λ (l : List SegmentRow). rows_with l rs) (without-put out (segment_row r) rows others.0 rise)
 
 -- ---- one recording changes
-
--- a number is not below itself
-level_with : (m n : ℕ) → n ≡ m → (nat_lt m n ≡ false) × (nat_lt n m ≡ false)
-level_with m n same = (grind (arith, nat_tests), grind (arith, nat_tests))
-
-below_differs : (m n : ℕ) → nat_lt m n ≡ true → m ≢ n
-below_differs m n below same = grind (arith, nat_tests)
-
--- a recording in front of the one that is found has a lesser id
-front_below : (id : ℕ) (x r : Recording) (rs : List Recording) → Ascends recording_before (x ∷ rs) → recording_of id rs ≡ Some r
-    → nat_lt x.id r.id ≡ true
-front_below id x r rs rise found = (found_has (λ (q : Recording). nat_lt x.id q.id ≡ true) id rs r rise.0 found).0
 
 -- the others behind one have other takes than it
 others_behind : (r : Recording) (rest : List Recording) → AllByRecursion (λ (q : Recording). nat_lt r.id q.id ≡ true) rest
@@ -273,7 +258,7 @@ retaken_rows id new r rows (x ∷ rs) climb rise found same differs none fresh o
         → cond here (Some x) (recording_of id rs) ≡ Some r → Changed x (put recording_before new (x ∷ rs))
     cases true rest found =
         let one : x ≡ r = cc found in
-        let level = level_with x.id new.id (same ∙ sym (ap (λ (q : Recording). q.id) one)) in
+        let level = neither_below x.id new.id (same ∙ sym (ap (λ (q : Recording). q.id) one)) in
         let above : AllByRecursion (λ (q : Recording). nat_lt r.id q.id ≡ true) rs =
         subst (λ (z : Recording). AllByRecursion (λ (q : Recording). nat_lt z.id q.id ≡ true) rs) one rise.0 in
         let front : Changed r (new ∷ rs) =
@@ -306,7 +291,7 @@ same_segments id new r rows (x ∷ rs) rise found same row =
         → rows_with rows (put recording_before new (x ∷ rs)) ≡ rows_with (put segments_less (segment_row x) rows) rs
     cases true rest found =
         let one : x ≡ r = cc found in
-        let level = level_with x.id new.id (same ∙ sym (ap (λ (q : Recording). q.id) one)) in
+        let level = neither_below x.id new.id (same ∙ sym (ap (λ (q : Recording). q.id) one)) in
         rw (level.0, level.1)
         (ap (λ (s : SegmentRow). rows_with (put segments_less s rows) rs) (row ∙ sym (ap segment_row one)))
     cases false rest found =
@@ -343,9 +328,6 @@ removed_rows id r rows (x ∷ rs) climb rise found none others =
     Removed : Recording → List Recording → Type 0
     Removed q after = without segments_take r.take (rows_with (put segments_less (segment_row q) rows) rs) ≡ rows_with rows after
 
-    equal : (m n : ℕ) → m ≡ n → (m == n) ≡ true
-    equal m n same = grind (arith, nat_tests)
-
     unequal : (m n : ℕ) → nat_lt m n ≡ true → (m == n) ≡ false
     unequal m n below = grind (arith, nat_tests)
 
@@ -362,7 +344,7 @@ removed_rows id r rows (x ∷ rs) climb rise found none others =
         without-rows_with r.take (put segments_less (segment_row r) rows) rs (Ascends-put segments_less segments_in_order (segment_row r) rows climb)
         (others_behind r rs above others.1)
         ∙ ap (λ (l : List SegmentRow). rows_with l rs) (without-own (segment_row r) rows climb none) in
-        let here : (x.id == r.id) ≡ true = equal x.id r.id (ap (λ (q : Recording). q.id) one) in
+        let here : (x.id == r.id) ≡ true = ap (λ (q : Recording). x.id == q.id) (sym one) ∙ test_itself x.id in
         rw (here, without_others_of r.id rs above) (subst (λ (q : Recording). Removed q rs) (sym one) gone)
     cases false rest found =
         let below : nat_lt x.id r.id ≡ true = front_below id x r rs rise found in

@@ -1,5 +1,5 @@
 -- The statuses of replies that are decided: none is that of a fault (RFC 9110 section 15.6).
-use Rattle.std.proofs.Common.{◌≡◌, ◌<◌, ◌⊎◌, inl, inr, ◌||◌, ℕ, Bool, true, false, nat_le, nat_lt, Option, None, Some, List, [], ◌∷◌, refl, sym, ap, ◌∙◌, subst, arith, length, if◌then◌else◌}
+use Rattle.std.proofs.Common.{◌≡◌, ◌<◌, inl, inr, ◌||◌, ℕ, Bool, true, false, nat_le, nat_lt, Option, None, Some, List, [], ◌∷◌, refl, sym, subst, arith, length, if◌then◌else◌}
 use Rattle.std.specs.List.{AllByRecursion}
 use Rattle.std.specs.Cmp.Lexicographic.{pointwise}
 use Rattle.std.specs.Prelude.{nat_eq, ⊤}
@@ -8,11 +8,10 @@ use Rattle.library_model.specs.declared.messages.Command.{Command}
 use Rattle.library_model.specs.declared.messages.Command.TheVariants.{NewAlbum, Import, Retake, Regroup, RemoveRecording, RemoveAlbum}
 use Rattle.library_model.specs.declared.messages.Question.{Question}
 use Rattle.library_model.specs.declared.messages.Question.TheVariants as about
-use Rattle.library_model.specs.declared.messages.Reply.{Reply}
 use Rattle.library_model.specs.declared.refusals.Refusal.{Refusal}
 use Rattle.library_model.specs.declared.refusals.Refusal.TheVariants.{AlbumFull, Ids, NotEmpty, TokenUsed}
 use Rattle.library_model.specs.Asked.{Asked, Wanted, change, command, malformed, question, refused}
-use Rattle.library_model.specs.Findings.{Finding, Finds, broken_by, measured}
+use Rattle.library_model.specs.Findings.{Finding, broken_by, measured}
 use Rattle.library_model.specs.InOrder.{IsKeptStatus}
 use Rattle.library_model.specs.Machine.{Decides, DecidesChange, DecidesCommand, OfAlbum, OfFile, OfRecording, Step, Sums, Verdict, accepts, album_of, found_album_reply, found_reply, import_step, imported, is_crowded, is_there, keeping, kept_under, makes, new_album_step, question_reply, recording_of, refuses, regroup_step, regrouping, remove_album_step, remove_step, repeat_reply, retake_step, stays, unless, verdict_reply}
 use Rattle.library_model.specs.Refusals.{status_of}

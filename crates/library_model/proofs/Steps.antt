@@ -1,5 +1,5 @@
 -- What an accepted command makes.
-use Rattle.std.proofs.Common.{◌≡◌, ◌||◌, ℕ, Bool, true, false, nat_le, nat_lt, Option, None, Some, List, [], length, inl, inr, refl, sym, ap, ◌∙◌, subst}
+use Rattle.std.proofs.Common.{◌≡◌, ◌||◌, ℕ, Bool, true, false, nat_le, nat_lt, Option, None, Some, List, [], length, inl, inr, refl, ap, ◌∙◌, subst}
 use Rattle.lib_base.specs.declared.files.Summary.{Summary}
 use Rattle.file_model.specs.Pcm.{Pcm}
 use Rattle.library_model.specs.declared.messages.Command.{Command}
@@ -10,7 +10,7 @@ use Rattle.library_model.specs.declared.refusals.Refusal.TheVariants.{NotEmpty, 
 use Rattle.library_model.specs.Bodies.{removed_reply}
 use Rattle.library_model.specs.Findings.{Finding, Finds, broken_by, measured}
 use Rattle.library_model.specs.InOrder.{IsKeptStatus}
-use Rattle.library_model.specs.Machine.{DecidesCommand, OfAlbum, OfFile, OfRecording, Step, Sums, Verdict, accepts, album_reply, import_step, imported, is_crowded, is_there, makes, new_album, new_recording, recording_of, recording_reply, refuses, regroup_step, regrouped, regrouping, remove_step, removing, removing_album, retake_step, retaken, retaking, state_after, unless, with_new_album}
+use Rattle.library_model.specs.Machine.{DecidesCommand, OfAlbum, OfFile, OfRecording, Step, Sums, Verdict, accepts, album_reply, import_step, imported, is_crowded, is_there, makes, new_album, new_recording, recording_of, recording_reply, regroup_step, regrouped, regrouping, remove_step, removing, removing_album, retake_step, retaken, retaking, state_after, unless, with_new_album}
 use Rattle.library_model.specs.Stands.{Resums, members}
 use Rattle.library_model.specs.State.{Album, Recording, State, numbers_end}
 
@@ -74,6 +74,35 @@ made s wanted said next reply after makes_it kept sums =
       status = subst Of same kept;
     }
 
+-- so it is of a retake
+retake_made : (s : State) (id : ℕ) (file : List ℕ) (reply : Reply) (after : State) → DecidesCommand s (Retake id file) (accepts reply after)
+    → Made s (Retake id file) reply after
+retake_made s id file reply after decides =
+    let found = of_recording (recording_of id s.recordings) (λ r. OfFile file (retake_step s r file)) reply after decides in
+    by_finding found.0 found.1 found.2.0 found.2.1 found.2.2
+  where
+    by_finding : (r : Recording) → recording_of id s.recordings ≡ Some r → (finding : Finding) → Finds file finding
+        → Sums (retake_step s r file finding) (accepts reply after) → Made s (Retake id file) reply after
+    by_finding r there (broken_by rule place) finds sums = absurd (cc sums)
+    by_finding r there (measured sound summary) finds sums =
+        let said = recording_reply 200 (retaken s r file sound summary) in
+        let next = retaking s r file sound summary in
+        let left = of_limit (nat_le numbers_end s.next_take) Ids (makes (λ _. said) next) reply after sums in
+        made s (Retake id file) said next reply after (sound, summary, r, there, finds, left.0, refl) (inl refl) left.1
+
+-- and of a recording that comes into another album
+regroup_made : (s : State) (id : ℕ) (album : Option ℕ) (reply : Reply) (after : State) → DecidesCommand s (Regroup id album) (accepts reply after)
+    → Made s (Regroup id album) reply after
+regroup_made s id album reply after decides =
+    let found = of_recording (recording_of id s.recordings) (λ r. OfAlbum (is_there album s.albums) (Sums (regroup_step s r album)))
+    reply after decides in
+    let r = found.0 in
+    let there = of_album (is_there album s.albums) (Sums (regroup_step s r album)) reply after found.2 in
+    let said = recording_reply 200 (regrouped r album) in
+    let next = regrouping s r album in
+    let room = of_limit (is_crowded album next.recordings) AlbumFull (makes (λ _. said) next) reply after there.1 in
+    made s (Regroup id album) said next reply after (r, found.1, there.0, room.0, refl) (inl refl) room.1
+
 -- What is accepted of a command was made.
 pub accepted_made : (s : State) (wanted : Command) (reply : Reply) (after : State) → DecidesCommand s wanted (accepts reply after)
     → Made s wanted reply after
@@ -96,27 +125,8 @@ accepted_made s (Import album name file) reply after decides =
         let room = of_limit (is_crowded album next.recordings) AlbumFull (unless lacks Ids (makes (λ _. said) next)) reply after sums in
         let left = of_limit lacks Ids (makes (λ _. said) next) reply after room.1 in
         made s (Import album name file) said next reply after (sound, summary, there, finds, room.0, left.0, refl) (inr refl) left.1
-accepted_made s (Retake id file) reply after decides =
-    let found = of_recording (recording_of id s.recordings) (λ r. OfFile file (retake_step s r file)) reply after decides in
-    by_finding found.0 found.1 found.2.0 found.2.1 found.2.2
-  where
-    by_finding : (r : Recording) → recording_of id s.recordings ≡ Some r → (finding : Finding) → Finds file finding
-        → Sums (retake_step s r file finding) (accepts reply after) → Made s (Retake id file) reply after
-    by_finding r there (broken_by rule place) finds sums = absurd (cc sums)
-    by_finding r there (measured sound summary) finds sums =
-        let said = recording_reply 200 (retaken s r file sound summary) in
-        let next = retaking s r file sound summary in
-        let left = of_limit (nat_le numbers_end s.next_take) Ids (makes (λ _. said) next) reply after sums in
-        made s (Retake id file) said next reply after (sound, summary, r, there, finds, left.0, refl) (inl refl) left.1
-accepted_made s (Regroup id album) reply after decides =
-    let found = of_recording (recording_of id s.recordings) (λ r. OfAlbum (is_there album s.albums) (Sums (regroup_step s r album)))
-    reply after decides in
-    let r = found.0 in
-    let there = of_album (is_there album s.albums) (Sums (regroup_step s r album)) reply after found.2 in
-    let said = recording_reply 200 (regrouped r album) in
-    let next = regrouping s r album in
-    let room = of_limit (is_crowded album next.recordings) AlbumFull (makes (λ _. said) next) reply after there.1 in
-    made s (Regroup id album) said next reply after (r, found.1, there.0, room.0, refl) (inl refl) room.1
+accepted_made s (Retake id file) reply after decides = retake_made s id file reply after decides
+accepted_made s (Regroup id album) reply after decides = regroup_made s id album reply after decides
 accepted_made s (RemoveRecording id) reply after decides =
     let found = of_recording (recording_of id s.recordings) (λ r. Sums (remove_step s r)) reply after decides in
     let r = found.0 in

@@ -1,22 +1,23 @@
 -- What a step does to takes: which it takes out, and which it leaves.
-use Rattle.std.proofs.Common.{◌≡◌, ◌≢◌, ◌≤◌, ◌<◌, ◌+◌, ◌==◌, ◌||◌, ◌⊎◌, not, inl, inr, true≢false, nat_lt, ℕ, Bool, true, false, cond, Option, None, Some, List, [], ◌∷◌, ◌++◌, map, filter, refl, sym, ap, ◌∙◌, subst, arith}
+use Rattle.std.proofs.Common.{◌≡◌, ◌≢◌, ◌≤◌, ◌<◌, ◌==◌, ◌||◌, ◌⊎◌, not, inl, inr, true≢false, ℕ, Bool, true, false, cond, Some, List, [], ◌∷◌, map, filter, refl, sym, ap, ◌∙◌, subst, arith}
 use Rattle.std.specs.List.{AllByRecursion}
 use Rattle.std.proofs.lemmas.Bool.Decides.{nat_tests}
-use Rattle.keeper_store.specs.Puts.{Ascends, put, recording_less, without}
-use Rattle.keeper_store.specs.declared.row_types.RecordingRow.{RecordingRow}
+use Rattle.keeper_store.specs.Puts.{put, without}
 use Rattle.library_model.specs.declared.messages.Command.{Command}
 use Rattle.library_model.specs.declared.messages.Command.TheVariants.{NewAlbum, Import, Retake, Regroup, RemoveRecording, RemoveAlbum}
 use Rattle.library_model.specs.declared.messages.Reply.{Reply}
-use Rattle.library_model.specs.Asked.{Asked, Wanted, change, command, question, refused, takes_file}
+use Rattle.library_model.specs.Asked.{Asked, change, command, question, refused, takes_file}
 use Rattle.library_model.specs.InOrder.{Differ, IsGiven}
-use Rattle.library_model.specs.Machine.{Answer, AnswersBy, Decides, Verdict, Way, accepts, as_decided, has_take, imported, keeper_failed, new_recording, recording_of, regrouped, regrouping, removing, removing_album, retaken, retaking, state_after, stays, taken_out, vault_failed, with_new_album, without_memory}
-use Rattle.library_model.specs.Stands.{IsValid, recording_row}
+use Rattle.library_model.specs.Machine.{Answer, AnswersBy, Decides, Verdict, Way, accepts, as_decided, has_take, keeper_failed, new_recording, recording_of, regrouped, retaken, state_after, stays, taken_out, vault_failed, without_memory}
+use Rattle.library_model.specs.Stands.{IsValid}
 use Rattle.library_model.specs.State.{Recording, State, recording_before}
 use Rattle.library_model.proofs.Accepting.{accepted-IsKeptStep}
-use Rattle.library_model.proofs.Imports.{AllByRecursion-weaker, given_of, recordings-imported}
-use Rattle.library_model.proofs.InOrderLemmas.{AllByRecursion-unmap}
-use Rattle.library_model.proofs.NextTables.{found_has}
+use Rattle.library_model.proofs.Imports.{AllByRecursion-weaker, given_of}
+use Rattle.library_model.proofs.Numbers.{or_right, test_is}
 use Rattle.library_model.proofs.Steps.{MakesState, accepted_made}
+use Rattle.library_model.proofs.Taking.{gone_none, own_takes}
+use Rattle.library_model.proofs.TakesGone.{import_takes, regroup_takes}
+use Rattle.library_model.proofs.ValidRows.{takes_of_rows}
 
 -- ---- recordings that have a take
 
@@ -25,22 +26,14 @@ or_split : (x y : Bool) → (x || y) ≡ true → (x ≡ true) ⊎ (y ≡ true)
 or_split true y is = inl refl
 or_split false y is = inr is
 
-or_right : (x y : Bool) → y ≡ true → (x || y) ≡ true
-or_right true y is = refl
-or_right false y is = is
-
 or_left : (x y : Bool) → x ≡ true → (x || y) ≡ true
 or_left x y is = ap (λ (b : Bool). b || y) is
-
--- numbers that test as equal are equal
-tested : (m n : ℕ) → (m == n) ≡ true → m ≡ n
-tested m n is = grind (arith, nat_tests)
 
 -- what has the take in front of others, or among them
 in_front : (take : ℕ) (q : Recording) (rs : List Recording) → has_take take (q ∷ rs) ≡ true → (q.take ≡ take) ⊎ (has_take take rs ≡ true)
 in_front take q rs has =
     elim (or_split (q.take == take) (has_take take rs) has) [
-      | inl is ↦ inl (tested q.take take is)
+      | inl is ↦ inl (test_is q.take take is)
       | inr is ↦ inr is
     ]
 
@@ -225,11 +218,6 @@ kept_differ test (take ∷ takes) differ = by_test (test take) (kept_differ test
     by_test true rest = (kept_have (λ (later : ℕ). later ≢ take) test takes differ.0, rest)
     by_test false rest = rest
 
--- the takes of rows are those of recordings
-takes_of_rows : (rs : List Recording) → map (λ (row : RecordingRow). row.take) (map recording_row rs) ≡ takes_of rs
-takes_of_rows [] = refl
-takes_of_rows (r ∷ rs) = ap (λ (takes : List ℕ). r.take ∷ takes) (takes_of_rows rs)
-
 -- No take is taken out twice.
 pub taken_out-Differ : (s next : State) → IsValid s → Differ (taken_out s next)
 taken_out-Differ s next valid =
@@ -238,12 +226,7 @@ taken_out-Differ s next valid =
 
 -- Nothing is taken out where a state stays.
 pub taken_out-same : (s : State) → taken_out s s ≡ []
-taken_out-same s = none (takes_of s.recordings) (each_has s.recordings)
-  where
-    none : (takes : List ℕ) → AllByRecursion (λ (take : ℕ). has_take take s.recordings ≡ true) takes
-        → filter (λ take. not (has_take take s.recordings)) takes ≡ []
-    none [] all = refl
-    none (take ∷ takes) all = rw all.0 (none takes all.1)
+taken_out-same s = gone_none s.recordings s.recordings (own_takes s.recordings)
 
 -- A take that a recording of a valid state has was given.
 pub has_take-given : (s : State) (take : ℕ) → IsValid s → has_take take s.recordings ≡ true → take < s.next_take
@@ -260,96 +243,18 @@ has_take-given s take valid has = by_list s.recordings (given_of s valid).1 has
 
 -- ---- commands that take out nothing
 
--- where each take is still there, none is taken out
-none_out : (s next : State) → AllByRecursion (λ (take : ℕ). has_take take next.recordings ≡ true) (takes_of s.recordings)
-    → taken_out s next ≡ []
-none_out s next all = by_list (takes_of s.recordings) all
-  where
-    by_list : (takes : List ℕ) → AllByRecursion (λ (take : ℕ). has_take take next.recordings ≡ true) takes
-        → filter (λ take. not (has_take take next.recordings)) takes ≡ []
-    by_list [] all = refl
-    by_list (take ∷ takes) all = rw all.0 (by_list takes all.1)
-
--- recordings have their takes among more of them
-each_has_more : (rs others : List Recording) → AllByRecursion (λ (take : ℕ). has_take take (rs ++ others) ≡ true) (takes_of rs)
-each_has_more [] others = tt
-each_has_more (r ∷ rs) others = (
-  or_left (r.take == r.take) (has_take r.take (rs ++ others)) (grind (arith, nat_tests)),
-  AllByRecursion-weaker (λ (take : ℕ). has_take take (rs ++ others) ≡ true) (λ (take : ℕ). has_take take (r ∷ rs ++ others) ≡ true) (takes_of rs)
-      (λ take has. or_right (r.take == take) (has_take take (rs ++ others)) has) (each_has_more rs others),
-)
-
--- a greater number is another
-unlike : (m n : ℕ) → nat_lt m n ≡ true → n ≢ m
-unlike m n less same = grind (arith, nat_tests)
-
--- numbers of which neither is less are equal
-level : (m n : ℕ) → nat_lt m n ≡ false → nat_lt n m ≡ false → m ≡ n
-level m n less more = grind (arith, nat_tests)
-
--- of recordings in order, one of the id of another is that one
-same_id : (id : ℕ) (rs : List Recording) (r : Recording) → Ascends recording_less (map recording_row rs) → recording_of id rs ≡ Some r
-    → AllByRecursion (λ (q : Recording). q.id ≡ r.id → q.take ≡ r.take) rs
-same_id id [] r ascends found = tt
-same_id id (q ∷ rs) r ascends found = by_id (q.id == id) found (same_id id rs r ascends.1)
-  where
-    above : AllByRecursion (λ (other : Recording). nat_lt q.id other.id ≡ true) rs
-    above = AllByRecursion-unmap (λ (row : RecordingRow). recording_less (recording_row q) row ≡ true) recording_row rs ascends.0
-    by_id : (same : Bool) → cond same (Some q) (recording_of id rs) ≡ Some r
-        → (recording_of id rs ≡ Some r → AllByRecursion (λ (other : Recording). other.id ≡ r.id → other.take ≡ r.take) rs)
-        → AllByRecursion (λ (other : Recording). other.id ≡ r.id → other.take ≡ r.take) (q ∷ rs)
-    by_id true found rest =
-        let one : q ≡ r = cc found in
-        subst (λ (x : Recording). AllByRecursion (λ (other : Recording). other.id ≡ x.id → other.take ≡ x.take) (q ∷ rs)) one (
-          λ same. refl,
-          AllByRecursion-weaker (λ (other : Recording). nat_lt q.id other.id ≡ true) (λ (other : Recording). other.id ≡ q.id → other.take ≡ q.take) rs
-              (λ other less same. absurd (unlike q.id other.id less same)) above,
-        )
-    by_id false found rest =
-        let less = (found_has (λ (other : Recording). nat_lt q.id other.id ≡ true) id rs r above found).0 in
-        (λ same. absurd (unlike q.id r.id less (sym same)), rest found)
-
--- each take is still there where a recording is put over one of the same take, or over none
-each_stays : (new : Recording) (rs : List Recording) → AllByRecursion (λ (q : Recording). q.id ≡ new.id → q.take ≡ new.take) rs
-    → AllByRecursion (λ (take : ℕ). has_take take (put recording_before new rs) ≡ true) (takes_of rs)
-each_stays new [] like = tt
-each_stays new (q ∷ rs) like = by_order (recording_before q new) (recording_before new q) refl refl (each_stays new rs like.1)
-  where
-    behind : (r : Recording) (others : List Recording) (takes : List ℕ) → AllByRecursion (λ (take : ℕ). has_take take others ≡ true) takes
-        → AllByRecursion (λ (take : ℕ). has_take take (r ∷ others) ≡ true) takes
-    behind r others takes all = AllByRecursion-weaker (λ (take : ℕ). has_take take others ≡ true) (λ (take : ℕ). has_take take (r ∷ others) ≡ true) takes
-        (λ take has. or_right (r.take == take) (has_take take others) has) all
-    by_order : (less more : Bool) → recording_before q new ≡ less → recording_before new q ≡ more
-        → AllByRecursion (λ (take : ℕ). has_take take (put recording_before new rs) ≡ true) (takes_of rs)
-        → AllByRecursion (λ (take : ℕ). has_take take (cond less (q ∷ put recording_before new rs) (cond more (new ∷ q ∷ rs) (new ∷ rs))) ≡ true)
-        (q.take ∷ takes_of rs)
-    by_order true more is other rest = (
-      or_left (q.take == q.take) (has_take q.take (put recording_before new rs)) (grind (arith, nat_tests)),
-      behind q (put recording_before new rs) (takes_of rs) rest,
-    )
-    by_order false true is other rest = behind new (q ∷ rs) (takes_of (q ∷ rs)) (each_has (q ∷ rs))
-    by_order false false is other rest =
-        let same : q.take ≡ new.take = like.0 (level q.id new.id is other) in
-        (or_left (new.take == q.take) (has_take q.take rs) (grind (arith, nat_tests)), behind new rs (takes_of rs) (each_has rs))
-
 -- A command that takes out no file makes a state that has all the takes.
 made_spares : (s : State) (wanted : Command) (next : State) → IsValid s → takes_file wanted ≡ false → MakesState s wanted next
     → taken_out s next ≡ []
-made_spares s (NewAlbum name) next valid none is =
-    subst (λ (t : State). taken_out s t ≡ []) (sym is.1) (none_out s (with_new_album s name) (each_has s.recordings))
+made_spares s (NewAlbum name) next valid none is = subst (λ (t : State). taken_out s t ≡ []) (sym is.1) (taken_out-same s)
 made_spares s (Import album name file) next valid none (sound, summary, there, finds, room, left, is) =
-    let made = imported s album name file sound summary in
-    let new = new_recording s album name file sound summary in
-    subst (λ (t : State). taken_out s t ≡ []) (sym is)
-    (none_out s made (subst (λ (rs : List Recording). AllByRecursion (λ (take : ℕ). has_take take rs ≡ true) (takes_of s.recordings))
-    (sym (recordings-imported s album name file sound summary valid)) (each_has_more s.recordings (new ∷ []))))
+    subst (λ (t : State). taken_out s t ≡ []) (sym is) (import_takes s (new_recording s album name file sound summary) valid refl)
 made_spares s (Retake id file) next valid none is = absurd (true≢false none)
 made_spares s (Regroup id album) next valid none (r, found, there, room, is) =
-    subst (λ (t : State). taken_out s t ≡ []) (sym is)
-    (none_out s (regrouping s r album) (each_stays (regrouped r album) s.recordings (same_id id s.recordings r valid.rows.recordings found)))
+    subst (λ (t : State). taken_out s t ≡ []) (sym is) (regroup_takes s id album r valid found)
 made_spares s (RemoveRecording id) next valid none is = absurd (true≢false none)
 made_spares s (RemoveAlbum id) next valid none (there, empty, is) =
-    subst (λ (t : State). taken_out s t ≡ []) (sym is) (none_out s (removing_album s id) (each_has s.recordings))
+    subst (λ (t : State). taken_out s t ≡ []) (sym is) (taken_out-same s)
 
 -- A change that takes out no file takes out nothing.
 pub taken_out-spared : (s : State) (token mark : List ℕ) (wanted : Command) (reply : Reply) (next : State) → IsValid s

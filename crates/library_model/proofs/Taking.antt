@@ -1,5 +1,5 @@
 -- The takes that a change takes out of a state.
-use Rattle.std.proofs.Common.{◌≡◌, ◌≢◌, ◌==◌, ◌||◌, ◌∙◌, not, ℕ, Bool, true, false, cond, nat_lt, Option, None, Some, List, [], ◌∷◌, map, filter, refl, sym, ap, subst, arith}
+use Rattle.std.proofs.Common.{◌≡◌, ◌≢◌, ◌==◌, ◌∙◌, not, ℕ, Bool, true, false, cond, nat_lt, Some, List, [], ◌∷◌, map, filter, refl, sym, ap, arith}
 use Rattle.std.specs.List.{AllByRecursion}
 use Rattle.std.proofs.lemmas.Bool.Decides.{nat_tests}
 use Rattle.keeper_store.specs.Puts.{Ascends, put, without}
@@ -7,12 +7,9 @@ use Rattle.library_model.specs.Machine.{has_take, recording_of}
 use Rattle.library_model.specs.State.{Recording, recording_before}
 use Rattle.library_model.proofs.Imports.{AllByRecursion-weaker}
 use Rattle.library_model.proofs.Looking.{recording_named}
+use Rattle.library_model.proofs.Numbers.{below_differs, level_is, or_right, test_differs, test_is, test_itself}
 
 -- ---- rows that are left
-
-either : (b : Bool) → (b || true) ≡ true
-either true = refl
-either false = refl
 
 -- What all others have and a new row has, all have once it is put.
 pub put_others : {A : Type 0} (number : A → ℕ) (P : A → Type 0) (new : A) (xs : List A) → Ascends (λ (a b : A). nat_lt (number a) (number b)) xs
@@ -25,9 +22,6 @@ put_others {A} number P new (x ∷ xs) rise own others =
     less : A → A → Bool
     less a b = nat_lt (number a) (number b)
 
-    differs : (m n : ℕ) → nat_lt m n ≡ true → m ≢ n
-    differs m n below same = grind (arith, nat_tests)
-
     behind : (m n k : ℕ) → nat_lt m n ≡ false → nat_lt m k ≡ true → k ≢ n
     behind m n k level above same = grind (arith, nat_tests)
 
@@ -39,9 +33,9 @@ put_others {A} number P new (x ∷ xs) rise own others =
 
     cases : (first second : Bool) → nat_lt (number x) (number new) ≡ first → nat_lt (number new) (number x) ≡ second
         → AllByRecursion P (put less new xs) → AllByRecursion P (cond first (x ∷ put less new xs) (cond second (new ∷ x ∷ xs) (new ∷ xs)))
-    cases true second below above all = (others.0 (differs (number x) (number new) below), all)
+    cases true second below above all = (others.0 (below_differs (number x) (number new) below), all)
     cases false true below above all =
-        (own, (others.0 (λ same. differs (number new) (number x) above (sym same)), rest_of xs below rise.0 others.1))
+        (own, (others.0 (λ same. below_differs (number new) (number x) above (sym same)), rest_of xs below rise.0 others.1))
     cases false false below above all = (own, rest_of xs below rise.0 others.1)
 
 -- What all others have, all have that are left once those of a number are taken out.
@@ -50,18 +44,12 @@ pub without_others : {A : Type 0} (number : A → ℕ) (P : A → Type 0) (n : �
 without_others number P n [] others = tt
 without_others {A} number P n (x ∷ xs) others = cases (number x == n) refl (without_others number P n xs others.1)
   where
-    differs : (number x == n) ≡ false → number x ≢ n
-    differs is same = grind (arith, nat_tests)
-
     cases : (here : Bool) → (number x == n) ≡ here → AllByRecursion P (without number n xs)
         → AllByRecursion P (cond (not here) (x ∷ without number n xs) (without number n xs))
     cases true is all = all
-    cases false is all = (others.0 (differs is), all)
+    cases false is all = (others.0 (test_differs (number x) n is), all)
 
 -- ---- which takes are there
-
-equal_test : (n : ℕ) → (n == n) ≡ true
-equal_test n = grind (arith, nat_tests)
 
 -- where no recording has a take, it is not there
 pub no_take : (take : ℕ) (rs : List Recording) → AllByRecursion (λ (r : Recording). r.take ≢ take) rs → has_take take rs ≡ false
@@ -72,27 +60,27 @@ no_take take (r ∷ rs) others =
 
 -- a take that is there among others is there
 has_more : (take : ℕ) (r : Recording) (rs : List Recording) → has_take take rs ≡ true → has_take take (r ∷ rs) ≡ true
-has_more take r rs there = rw there (either (r.take == take))
+has_more take r rs there = or_right (r.take == take) (has_take take rs) there
 
 -- each recording's take is there
 pub own_takes : (rs : List Recording) → AllByRecursion (λ (r : Recording). has_take r.take rs ≡ true) rs
 own_takes [] = tt
 own_takes (r ∷ rs) = (
-  (let here = equal_test r.take in rw here refl),
+  (let here = test_itself r.take in rw here refl),
   AllByRecursion-weaker (λ (q : Recording). has_take q.take rs ≡ true) (λ (q : Recording). has_take q.take (r ∷ rs) ≡ true) rs
       (λ q there. has_more q.take r rs there) (own_takes rs),
 )
 
 -- The take of a recording that is put is there.
 pub put_own_take : (new : Recording) (rs : List Recording) → has_take new.take (put recording_before new rs) ≡ true
-put_own_take new [] = let here = equal_test new.take in rw here refl
+put_own_take new [] = let here = test_itself new.take in rw here refl
 put_own_take new (r ∷ rs) = cases (nat_lt r.id new.id) (nat_lt new.id r.id) (put_own_take new rs)
   where
     cases : (first second : Bool) → has_take new.take (put recording_before new rs) ≡ true
         → has_take new.take (cond first (r ∷ put recording_before new rs) (cond second (new ∷ r ∷ rs) (new ∷ rs))) ≡ true
     cases true second rest = has_more new.take r (put recording_before new rs) rest
-    cases false true rest = let here = equal_test new.take in rw here refl
-    cases false false rest = let here = equal_test new.take in rw here refl
+    cases false true rest = let here = test_itself new.take in rw here refl
+    cases false false rest = let here = test_itself new.take in rw here refl
 
 -- Takes of others stay where a recording is put.
 pub put_keeps_takes : (new : Recording) (rs : List Recording)
@@ -103,9 +91,6 @@ put_keeps_takes new (r ∷ rs) = cases (nat_lt r.id new.id) (nat_lt new.id r.id)
     Left : List Recording → Recording → Type 0
     Left us q = q.id ≢ new.id → has_take q.take us ≡ true
 
-    level : nat_lt r.id new.id ≡ false → nat_lt new.id r.id ≡ false → r.id ≡ new.id
-    level below above = grind (arith, nat_tests)
-
     stay : (us : List Recording) → ((q : Recording) → has_take q.take rs ≡ true → has_take q.take us ≡ true) → AllByRecursion (Left us) rs
     stay us more =
         AllByRecursion-weaker (λ (q : Recording). has_take q.take rs ≡ true) (Left us) rs (λ q there apart. more q there) (own_takes rs)
@@ -114,7 +99,7 @@ put_keeps_takes new (r ∷ rs) = cases (nat_lt r.id new.id) (nat_lt new.id r.id)
         → AllByRecursion (Left (put recording_before new rs)) rs
         → AllByRecursion (Left (cond first (r ∷ put recording_before new rs) (cond second (new ∷ r ∷ rs) (new ∷ rs)))) (r ∷ rs)
     cases true second below above rest = (
-      (λ _. let here = equal_test r.take in rw here refl),
+      (λ _. let here = test_itself r.take in rw here refl),
       AllByRecursion-weaker (Left (put recording_before new rs)) (Left (r ∷ put recording_before new rs)) rs
           (λ q left apart. has_more q.take r (put recording_before new rs) (left apart)) rest,
     )
@@ -123,7 +108,7 @@ put_keeps_takes new (r ∷ rs) = cases (nat_lt r.id new.id) (nat_lt new.id r.id)
       stay (new ∷ r ∷ rs) (λ q there. has_more q.take new (r ∷ rs) (has_more q.take r rs there)),
     )
     cases false false below above rest =
-        (λ apart. absurd (apart (level below above)), stay (new ∷ rs) (λ q there. has_more q.take new rs there))
+        (λ apart. absurd (apart (level_is r.id new.id below above)), stay (new ∷ rs) (λ q there. has_more q.take new rs there))
 
 -- So they do where those of an id are taken out.
 pub without_keeps_takes : (n : ℕ) (rs : List Recording)
@@ -137,13 +122,10 @@ without_keeps_takes n (r ∷ rs) = cases (r.id == n) refl (without_keeps_takes n
     us : List Recording
     us = without (λ (q : Recording). q.id) n rs
 
-    same : (r.id == n) ≡ true → r.id ≡ n
-    same is = grind (arith, nat_tests)
-
     cases : (here : Bool) → (r.id == n) ≡ here → AllByRecursion (Left us) rs → AllByRecursion (Left (cond (not here) (r ∷ us) us)) (r ∷ rs)
-    cases true is rest = (λ apart. absurd (apart (same is)), rest)
+    cases true is rest = (λ apart. absurd (apart (test_is r.id n is)), rest)
     cases false is rest = (
-      (λ _. let here = equal_test r.take in rw here refl),
+      (λ _. let here = test_itself r.take in rw here refl),
       AllByRecursion-weaker (Left us) (Left (r ∷ us)) rs (λ q left apart. has_more q.take r us (left apart)) rest,
     )
 
@@ -166,19 +148,13 @@ gone_one id [] us r rise found others own = absurd (cc found)
 gone_one id (x ∷ rs) us r rise found others own =
     cases (x.id == id) refl (λ (is : recording_of id rs ≡ Some r). gone_one id rs us r rise.1 is others.1 own) found
   where
-    differs_above : (m n : ℕ) → nat_lt m n ≡ true → n ≢ m
-    differs_above m n above same = grind (arith, nat_tests)
-
-    differs_by_test : (m n : ℕ) → (m == n) ≡ false → m ≢ n
-    differs_by_test m n test same = grind (arith, nat_tests)
-
     -- the others of x
     behind : (rest : List Recording) → x.id ≡ r.id → AllByRecursion (λ (q : Recording). nat_lt x.id q.id ≡ true) rest
         → AllByRecursion (λ (q : Recording). q.id ≢ r.id → has_take q.take us ≡ true) rest
         → AllByRecursion (λ (q : Recording). has_take q.take us ≡ true) rest
     behind [] same above others = tt
     behind (q ∷ rest) same above others =
-        (others.0 (λ equal. differs_above x.id q.id above.0 (equal ∙ sym same)), behind rest same above.1 others.1)
+        (others.0 (λ equal. below_differs x.id q.id above.0 (same ∙ sym equal)), behind rest same above.1 others.1)
 
     cases : (here : Bool) → (x.id == id) ≡ here → (recording_of id rs ≡ Some r → gone rs us ≡ r.take ∷ [])
         → cond here (Some x) (recording_of id rs) ≡ Some r → gone (x ∷ rs) us ≡ r.take ∷ []
@@ -190,5 +166,5 @@ gone_one id (x ∷ rs) us r rise found others own =
         rw (out, none) (ap (λ (z : Recording). z.take ∷ []) one)
     cases false is rest found =
         let in_it : has_take x.take us ≡ true =
-        others.0 (λ equal. differs_by_test x.id id is (equal ∙ recording_named id rs r found)) in
+        others.0 (λ equal. test_differs x.id id is (equal ∙ recording_named id rs r found)) in
         rw in_it (rest found)

@@ -1,5 +1,5 @@
 -- What an accepted request leads to: a valid state, whose files the vault holds.
-use Rattle.std.proofs.Common.{◌≡◌, ℕ, Option, Some, List, map, refl, sym, ap, subst}
+use Rattle.std.proofs.Common.{◌≡◌, ℕ, Some, List, map, sym, subst}
 use Rattle.std.specs.List.{AllByRecursion}
 use Rattle.keeper_store.specs.Blobs.{Blobs, OthersKept}
 use Rattle.keeper_store.proofs.Dropping.{AllByRecursion-without}
@@ -7,7 +7,7 @@ use Rattle.keeper_store.proofs.Putting.{AllByRecursion-put}
 use Rattle.library_model.specs.declared.messages.Command.{Command}
 use Rattle.library_model.specs.declared.messages.Command.TheVariants.{NewAlbum, Import, Retake, Regroup, RemoveRecording, RemoveAlbum}
 use Rattle.library_model.specs.declared.messages.Reply.{Reply}
-use Rattle.library_model.specs.Asked.{Asked, Wanted, change, command, question, refused}
+use Rattle.library_model.specs.Asked.{Asked, Wanted, change, question, refused}
 use Rattle.library_model.specs.InOrder.{AreInOrder}
 use Rattle.library_model.specs.Machine.{Decides, DecidesCommand, accepts, imported, kept_reply, new_recording, regrouped, regrouping, removing, removing_album, retaken, retaking, with_new_album}
 use Rattle.library_model.specs.Stands.{AsksWithin, BringsWithin, HoldsFileOf, HoldsFiles, HoldsWanted, IsFound, IsValid, Resums, WantsWithin, album_row, tables_of}

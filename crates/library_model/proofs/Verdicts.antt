@@ -1,5 +1,5 @@
 -- There is one verdict, and an import within the limits is granted.
-use Rattle.std.proofs.Common.{◌≡◌, ◌||◌, ℕ, Bool, true, false, Option, None, Some, nat_le, List, refl, sym, ap, ◌∙◌, subst}
+use Rattle.std.proofs.Common.{◌≡◌, ◌||◌, ℕ, Bool, true, false, Option, None, Some, nat_le, List, sym, ap, ◌∙◌, subst}
 use Rattle.lib_base.specs.declared.files.Summary.{Summary}
 use Rattle.file_model.specs.Pcm.{Pcm}
 use Rattle.library_model.specs.declared.messages.Command.{Command}
@@ -8,7 +8,7 @@ use Rattle.library_model.specs.declared.refusals.Refusal.{Refusal}
 use Rattle.library_model.specs.declared.refusals.Refusal.TheVariants.{AlbumFull, Ids}
 use Rattle.library_model.specs.Asked.{Asked, Wanted, change, command, malformed, question, refused}
 use Rattle.library_model.specs.Findings.{Finding, Finds, measured}
-use Rattle.library_model.specs.Machine.{Decides, DecidesChange, DecidesCommand, OfAlbum, OfFile, OfRecording, Step, Sums, Verdict, accepts, import_step, imported, is_crowded, is_there, keeping, kept_under, makes, new_album_step, new_recording, recording_of, recording_reply, refuses, regroup_step, remove_album_step, remove_step, retake_step, stays, unless, verdict_reply, with_albums}
+use Rattle.library_model.specs.Machine.{Decides, DecidesChange, DecidesCommand, OfAlbum, OfFile, OfRecording, Step, Sums, Verdict, accepts, import_step, imported, is_crowded, is_there, keeping, kept_under, makes, new_album_step, new_recording, recording_of, recording_reply, refuses, regroup_step, remove_album_step, remove_step, retake_step, retaken, retaking, unless, verdict_reply, with_albums}
 use Rattle.library_model.specs.State.{Album, Kept, Recording, State, numbers_end}
 use Rattle.library_model.proofs.Measuring.{Finds_unique}
 use Rattle.library_model.proofs.Resumming.{Resums-unique}

@@ -1,11 +1,11 @@
 -- Worked rows: what each command makes of small states, and how it is refused.
-use Rattle.std.proofs.Common.{◌≡◌, ◌+◌, ℕ, true, false, Some, None, List, [], ◌∷◌, codes, refl}
+use Rattle.std.proofs.Common.{◌≡◌, ℕ, zero, suc, true, false, Some, None, List, [], ◌∷◌, codes, refl}
 use Rattle.std.specs.Fmt.{digits}
 use Rattle.serde_json.proofs.OnLiterals.{serde_json_on_literals}
 use Rattle.lib_base.specs.declared.outcomes.Rule.TheVariants.{V}
 use Rattle.file_model.proofs.Rows.{four_frames}
 use Rattle.sound_model.specs.Texts.{millionths}
-use Rattle.library_model.specs.declared.messages.Command.TheVariants.{NewAlbum, Import, Retake, Regroup, RemoveRecording, RemoveAlbum}
+use Rattle.library_model.specs.declared.messages.Command.TheVariants.{Import, Retake, Regroup, RemoveRecording, RemoveAlbum}
 use Rattle.library_model.specs.declared.messages.Question.TheVariants as about
 use Rattle.library_model.specs.declared.refusals.Refusal.TheVariants.{NoRecording, NoAlbum}
 use Rattle.library_model.specs.Findings.{measured, broken_by}
@@ -34,8 +34,8 @@ row_state = record row_with_album { next_recording = 2; next_take = 2; recording
 
 -- So many recordings in it.
 abbrev row_members : ℕ → List Recording
-row_members 0 = []
-row_members (n + 1) = row_member ∷ row_members n
+row_members zero = []
+row_members (suc n) = row_member ∷ row_members n
 
 -- ---- new albums
 

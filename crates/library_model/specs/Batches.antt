@@ -1,5 +1,5 @@
 -- What commands change in the tables: the rows that they put, and their batches.
-use Rattle.std.specs.Prelude.{◌≡◌, ◌+◌, ◌==◌, ◌&&◌, not, ℕ, Bool, true, false, List, [], ◌∷◌, ◌++◌, map, nat_le, nat_lt, Option, None, Some, if◌then◌else◌, ⊤}
+use Rattle.std.specs.Prelude.{◌≡◌, ◌+◌, ◌==◌, ◌&&◌, not, ℕ, Bool, false, List, [], ◌∷◌, ◌++◌, map, nat_le, nat_lt, Option, None, Some, if◌then◌else◌, ⊤}
 use Rattle.std.specs.List.{find}
 use Rattle.md5.specs.Md5.{md5}
 use Rattle.lib_base.specs.declared.files.Measured.{Measured}
@@ -45,7 +45,7 @@ pub record IsResummed (albums : List AlbumRow) (next : Tables) (id : ℕ) (row :
   pub row_is : row ≡ record old { summary = row.summary }
   pub summed : IsSummedAlbum next row
 
--- so is each row that of the album of its id
+-- the rows are those of the albums of these ids, one for each
 abbrev pub AreResummed : List AlbumRow → Tables → List ℕ → List AlbumRow → Type 0
 AreResummed albums next [] [] = ⊤
 AreResummed albums next [] (row ∷ rows) = ⊥
@@ -95,23 +95,28 @@ retake_changes next m row =
 abbrev pub closing : List AlbumRow → List ℕ → List ℕ → Reply → List Change
 closing albums token mark reply = map PutAlbum albums ++ PutReply (kept_row token mark reply) ∷ []
 
--- the whole batches
+-- the batch of a new album
 abbrev pub new_album_batch : NextNumbers → AlbumRow → List ℕ → List ℕ → Reply → List Change
 new_album_batch next row token mark reply = new_album_changes next row ++ closing [] token mark reply
 
+-- that of an import
 abbrev pub import_batch : NextNumbers → Measured → RecordingRow → List AlbumRow → List ℕ → List ℕ → Reply → List Change
 import_batch next m row albums token mark reply = import_changes next m row ++ closing albums token mark reply
 
+-- that of a retake, by which the segments of the old take go
 abbrev pub retake_batch : NextNumbers → Measured → RecordingRow → RecordingRow → List AlbumRow → List ℕ → List ℕ → Reply → List Change
 retake_batch next m old row albums token mark reply =
     retake_changes next m row ++ DropSegments old.take ∷ closing albums token mark reply
 
+-- that of a recording that comes into another album
 abbrev pub regroup_batch : RecordingRow → List AlbumRow → List ℕ → List ℕ → Reply → List Change
 regroup_batch row albums token mark reply = PutRecording row ∷ closing albums token mark reply
 
+-- that of a recording that is removed, and its segments with it
 abbrev pub remove_batch : RecordingRow → List AlbumRow → List ℕ → List ℕ → Reply → List Change
 remove_batch old albums token mark reply =
     DropRecording old.id ∷ DropSegments old.take ∷ closing albums token mark reply
 
+-- that of an album that is removed
 abbrev pub remove_album_batch : ℕ → List ℕ → List ℕ → Reply → List Change
 remove_album_batch id token mark reply = DropAlbum id ∷ closing [] token mark reply

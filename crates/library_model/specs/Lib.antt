@@ -3,6 +3,7 @@ pub mod Batches
 pub mod Bodies
 pub mod Exchanges
 pub mod Findings
+pub mod Granted
 pub mod InOrder
 pub mod Machine
 pub mod Named

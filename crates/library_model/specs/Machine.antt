@@ -247,11 +247,12 @@ DecidesChange s token mark (command wanted) None verdict =
 
 -- ---- what is asked
 
--- what is replied about what was looked for
+-- what is replied about the recording that was looked for
 abbrev pub found_reply : Option Recording → Reply
 found_reply (Some r) = recording_reply 200 r
 found_reply None = refusal NoRecording
 
+-- what is replied about the album that was looked for
 abbrev pub found_album_reply : State → Option Album → Reply
 found_album_reply s (Some a) = album_reply 200 a (members a.id s.recordings)
 found_album_reply s None = refusal NoAlbum

@@ -172,11 +172,12 @@ abbrev pub frames_of_take : ℕ → List RecordingRow → Option ℕ
 frames_of_take take [] = None
 frames_of_take take (r ∷ rs) = if r.take == take then Some r.summary.frames else frames_of_take take rs
 
--- the id of the nearest row, 0 where there is none
+-- the id of the nearest album's row, 0 where there is none
 abbrev pub album_before : List AlbumRow → ℕ
 album_before [] = 0
 album_before (row ∷ seen) = row.id
 
+-- that of the nearest recording's row
 abbrev pub recording_before : List RecordingRow → ℕ
 recording_before [] = 0
 recording_before (row ∷ seen) = row.id
@@ -262,10 +263,11 @@ IsFirstWithout Fact told [] bad = ⊥
 IsFirstWithout Fact told (row ∷ rows) bad =
     ((¬ Fact row) × (bad ≡ told row)) ⊎ (Fact row × IsFirstWithout Fact told rows bad)
 
--- the bad row of an album, or a recording, with another summary
+-- the bad row of an album with another summary
 abbrev pub other_album_summary : AlbumRow → BadRow
 other_album_summary row = record { table = Albums; id = row.id; rule = OtherSummary }
 
+-- that of a recording with another summary
 abbrev pub other_recording_summary : RecordingRow → BadRow
 other_recording_summary row = record { table = Recordings; id = row.id; rule = OtherSummary }
 
