@@ -3,8 +3,8 @@ use Rattle.std.proofs.Common.{◌≡◌, ◌≢◌, ℕ, suc, zero, true, false,
 use Rattle.std.specs.Io.KnownBytes.{Consumes, IsAtEnd}
 use Rattle.http_model.specs.declared.refusals.FramingRefusal.{FramingRefusal}
 use Rattle.http_model.specs.Refusals.{framing_refusal}
-use Rattle.http_model.specs.Requests.{AreRequests, End, Frames, Framed, IsFront, IsUnframeable, SoFar, closes, ended, turns, unframeable}
-use Rattle.http_model.proofs.RunLaws.{AreRequests-from, SoFar-closed, SoFar-ended, SoFar-front, SoFar-front_with, SoFar-passes, SoFar-reads, SoFar-refused, SoFar-refused_on, SoFar-turns}
+use Rattle.http_model.specs.Requests.{AreRequests, Framed, IsFront, IsUnframeable, SoFar, closes, ended, turns, unframeable}
+use Rattle.http_model.proofs.RunLaws.{AreRequests-from, SoFar-closed, SoFar-ended, SoFar-front, SoFar-front_with, SoFar-passes, SoFar-refused_on, SoFar-turns}
 use Rattle.http_inbox.specs.declared.requests.Request.{Request}
 use Rattle.http_inbox.specs.Inboxes.{Covers}
 use Rattle.http_inbox.specs.Nexts.{BeginsWith, behind, framed}

@@ -6,7 +6,6 @@ use Rattle.std.specs.Char.{encode_utf8}
 use Rattle.std.specs.Str.{chars, is_utf8}
 use Rattle.std.specs.Str.Parse.{digits_value}
 use Rattle.httparse.specs.Grammar.{RequestHead}
-use Rattle.serde_json.specs.Data.{Data}
 use Rattle.serde_json.specs.Find.{as_str}
 use Rattle.library_model.specs.declared.limits.TheConstants.{MOST_BODY_BYTES}
 use Rattle.library_model.specs.declared.messages.Command.{Command}
@@ -26,7 +25,7 @@ use Rattle.http_routes.specs.Routes.{has_method, methods_of}
 use Rattle.http_model.specs.declared.refusals.AskingRefusal.{AskingRefusal}
 use Rattle.http_model.specs.declared.refusals.AskingRefusal.TheVariants.{Method, Name, Body}
 use Rattle.http_model.specs.declared.refusals.FramingRefusal.TheVariants.{Frame, Length, Size}
-use Rattle.http_model.specs.Asking.{allowed_if, allows_of, asked_at, asked_if, asked_of, asked_or_changing, change_asked, if_token, import_wanted, name_given, only_value, or_malformed, question_by, token_in, token_values, wanted_at}
+use Rattle.http_model.specs.Asking.{allowed_if, allows_of, asked_at, asked_if, asked_of, asked_or_changing, change_asked, if_token, name_given, only_value, or_malformed, question_by, token_in, token_values, wanted_at}
 use Rattle.http_model.specs.Exchanges.{allows_in}
 use Rattle.http_model.specs.Refusals.{asking_refusal, asking_row}
 use Rattle.http_model.specs.Requests.{Extent, Framed, Frames, extent, extent_by, header_values, is_size, limited, long, refused as unframed, wants_length, body_limit}

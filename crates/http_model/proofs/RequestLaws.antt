@@ -2,12 +2,11 @@
 use Rattle.std.proofs.Common.{◌≡◌, ◌≢◌, ◌≤◌, ◌<◌, ℕ, suc, zero, ◌+◌, true, false, inl, inr, List, [], ◌∷◌, ◌++◌, length, take, drop, refl, sym, ap, ◌∙◌, subst, arith, append_assoc, length-append}
 use Rattle.std.proofs.Math.Seq.{take-append_seam}
 use Rattle.std.proofs.lemmas.List.{take-append-drop, take-append-le}
-use Rattle.httparse.specs.Grammar.{RequestHead, ReadsRequest, print_request}
+use Rattle.httparse.specs.Grammar.{RequestHead, print_request}
 use Rattle.httparse.proofs.GrammarLemmas.{request_unique, ReadsRequest-append}
 use Rattle.http_model.specs.declared.refusals.FramingRefusal.{FramingRefusal}
-use Rattle.http_model.specs.declared.refusals.FramingRefusal.TheVariants.{Frame}
 use Rattle.http_model.specs.Refusals.{framing_refusal}
-use Rattle.http_model.specs.Requests.{Framed, HeadAt, HasNoHead, Extent, refused, long, extent, Frames, IsRefused, IsCut, IsUnframeable, closes, End, ended, unframeable, turns, LeavesAt, StopsAt, RequestsOf, head_limit}
+use Rattle.http_model.specs.Requests.{Framed, HeadAt, HasNoHead, refused, long, extent, Frames, IsRefused, IsCut, IsUnframeable, closes, End, unframeable, LeavesAt, StopsAt, RequestsOf, head_limit}
 use Rattle.http_model.proofs.Readings.{append-split, ReadsRequest-shorter}
 
 -- ---- heads

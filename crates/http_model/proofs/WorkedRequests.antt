@@ -1,12 +1,12 @@
 -- Worked rows: what follows a head, what asks to close, and the requests of whole inputs.
-use Rattle.std.proofs.Common.{◌≡◌, ◌≢◌, ℕ, true, false, List, [], ◌∷◌, ◌++◌, codes, refl, inl, inr, arith}
+use Rattle.std.proofs.Common.{◌≡◌, ℕ, true, false, List, [], ◌∷◌, ◌++◌, codes, refl, inl, inr, arith}
 use Rattle.std.proofs.lemmas.List.Elements.{All-from_recursion}
 use Rattle.std.proofs.lemmas.List.Sums.{AllPass-from_list_all}
 use Rattle.std.specs.Char.{encode_utf8}
 use Rattle.httparse.proofs.OnLiterals.{httparse_on_literals}
 use Rattle.httparse.specs.Grammar.{RequestHead, Field, IsField, ReadsRequest, crlf, is_token_byte, is_uri_byte, is_value_byte}
 use Rattle.http_model.specs.declared.refusals.FramingRefusal.TheVariants.{Frame, Length, Size}
-use Rattle.http_model.specs.Requests.{Framed, HeadAt, Frames, Extent, refused, long, extent, closes, ended, turns, IsFront, RequestsOf, head_limit, field_limit, body_limit}
+use Rattle.http_model.specs.Requests.{Frames, refused, long, extent, closes, ended, turns, IsFront, RequestsOf, head_limit, field_limit, body_limit}
 use Rattle.http_model.specs.Fields.{is_named}
 
 -- a head of that method and version, with these header lines

@@ -7,7 +7,6 @@ use Rattle.library_model.specs.declared.messages.Command.{Command}
 use Rattle.library_model.specs.declared.messages.Command.TheVariants.{NewAlbum, Import, Retake, Regroup, RemoveRecording, RemoveAlbum}
 use Rattle.library_model.specs.declared.messages.Question.{Question}
 use Rattle.library_model.specs.declared.messages.Question.TheVariants as about
-use Rattle.library_model.specs.declared.messages.Reply.{Reply}
 use Rattle.library_model.specs.Asked.{Asked, Wanted, change, command, malformed, question, refused}
 use Rattle.library_model.specs.Named.{name_in, album_in, if_name}
 use Rattle.library_model.specs.Names.{is_token}

@@ -1,5 +1,5 @@
 //! Replies, written.
-ghost use Rattle.std.specs.Prelude.{◌≡◌, ◌++◌, []};
+ghost use Rattle.std.specs.Prelude.{◌≡◌, ◌++◌, [], true, false};
 ghost use Rattle.lib_base.specs.Writes.{WritesAll};
 ghost use Rattle.library_model.specs.Replies.{refusal};
 ghost use Rattle.library_model.specs.declared.refusals.Refusal.TheVariants as cause;
@@ -59,8 +59,22 @@ fn memory_text(closes: bool) -> &'static [u8]
     ensures { result.now ≡ spelled closes [] (refusal cause.Memory) }
 {
     if closes {
-        CLOSING_MEMORY_TEXT
+        closing_text()
     } else {
-        MEMORY_TEXT
+        staying_text()
     }
+}
+
+/// Those after which the connection closes.
+fn closing_text() -> &'static [u8]
+    ensures { result.now ≡ spelled true [] (refusal cause.Memory) }
+{
+    CLOSING_MEMORY_TEXT
+}
+
+/// Those after which it stays.
+fn staying_text() -> &'static [u8]
+    ensures { result.now ≡ spelled false [] (refusal cause.Memory) }
+{
+    MEMORY_TEXT
 }

@@ -1,5 +1,5 @@
 use Rattle.std.proofs.Common.{◌∙◌, ap}
-use Rattle.serde_json.specs.Written.{compact_text, has_float}
+use Rattle.serde_json.specs.Written.{has_float}
 use Rattle.json_bodies.proofs.Recordings.{no_float-album}
 use Rattle.json_bodies.proofs.replies.album_text.Goals as goal
 
