@@ -41,14 +41,14 @@ settled s token mark wanted (decision.Planned plan) (Ready p) decides is = prepa
 -- Where a fault of the vault follows, the request is refused for it.
 pub put_staged : (s : State) (asked : Asked) (wanted : Command) (staged : Staged) (before now : ℕ) (r : Result Staged Memory)
     → asks_vault asked ≡ puts_file wanted → StagedFrom s asked staged → StaysUnlessFailed wanted staged before now r → IfOk r (StagedFrom s asked)
-put_staged s asked wanted (Refused reply) before now (Ok (Refused said)) same from stays = subst (λ (r : Reply). StagedFrom s asked (Refused r)) (sym stays) from
-put_staged s asked wanted (Refused reply) before now (Ok (Ready p)) same from stays = absurd stays
-put_staged s asked wanted (Ready ready) before now (Ok (Refused said)) same from stays = record {
+put_staged s asked wanted (Refused reply) before now (Ok (Refused said)) same from kept = subst (λ (r : Reply). StagedFrom s asked (Refused r)) (sym kept) from
+put_staged s asked wanted (Refused reply) before now (Ok (Ready p)) same from kept = absurd kept
+put_staged s asked wanted (Ready ready) before now (Ok (Refused said)) same from kept = record {
   way = vault_failed (accepts ready.reply from.next);
-  answers = (from.decides, tt, same ∙ stays.0, stays.1, refl);
+  answers = (from.decides, tt, same ∙ kept.0, kept.1, refl);
 }
-put_staged s asked wanted (Ready ready) before now (Ok (Ready p)) same from stays = subst (λ (q : Prepared). StagedFrom s asked (Ready q)) (sym stays) from
-put_staged s asked wanted staged before now (Err e) same from stays = tt
+put_staged s asked wanted (Ready ready) before now (Ok (Ready p)) same from kept = subst (λ (q : Prepared). StagedFrom s asked (Ready q)) (sym kept) from
+put_staged s asked wanted staged before now (Err e) same from kept = tt
 
 -- A refusal that tells nothing of the outside is settled as one.
 pub own_settled : (token mark : List ℕ) (made : Decision) (staged : Staged) → IsOwnRefusal made → IsSettled token mark made staged → IsOwnStaged staged
@@ -60,11 +60,11 @@ own_settled token mark (decision.Planned plan) (Ready p) own is = tt
 -- The room of a plan is that of its prepared change.
 pub room_staged : (library : Library) (token mark : List ℕ) (wanted : Command) (made : Decision) (staged : Staged) (before now : ℕ) (r : Result Staged Memory)
     → HasRoomOf library made → IsSettled token mark made staged → StaysUnlessFailed wanted staged before now r → IfReady r (Fits library)
-room_staged library token mark wanted made staged before now (Ok (Refused said)) room is stays = tt
-room_staged library token mark wanted made staged before now (Err e) room is stays = tt
-room_staged library token mark wanted (decision.Refused reply) (Refused said) before now (Ok (Ready p)) room is stays = absurd stays
-room_staged library token mark wanted (decision.Refused reply) (Ready ready) before now (Ok (Ready p)) room is stays = absurd is
-room_staged library token mark wanted (decision.Planned plan) (Refused said) before now (Ok (Ready p)) room is stays = absurd is
-room_staged library token mark wanted (decision.Planned plan) (Ready ready) before now (Ok (Ready p)) room is stays =
+room_staged library token mark wanted made staged before now (Ok (Refused said)) room is kept = tt
+room_staged library token mark wanted made staged before now (Err e) room is kept = tt
+room_staged library token mark wanted (decision.Refused reply) (Refused said) before now (Ok (Ready p)) room is kept = absurd kept
+room_staged library token mark wanted (decision.Refused reply) (Ready ready) before now (Ok (Ready p)) room is kept = absurd is
+room_staged library token mark wanted (decision.Planned plan) (Refused said) before now (Ok (Ready p)) room is kept = absurd is
+room_staged library token mark wanted (decision.Planned plan) (Ready ready) before now (Ok (Ready p)) room is kept =
     let fits : Fits library ready = rw (is.batch, is.fresh) (room token mark) in
-    subst (Fits library) (sym stays) fits
+    subst (Fits library) (sym kept) fits

@@ -1,7 +1,7 @@
 -- What is looked up in rows that a library holds.
 use Rattle.std.proofs.Common.{◌≡◌, ◌==◌, ℕ, Bool, true, false, List, map, length, Option, None, Some, Bor, refl, sym, ap, ◌∙◌, subst, cond}
 use Rattle.std.specs.List.{find}
-use Rattle.std.specs.Prelude.{IfSome, is_some, option_copied}
+use Rattle.std.specs.Prelude.{is_some, option_copied}
 use Rattle.std.proofs.lemmas.List.{length-map}
 use Rattle.std.proofs.lemmas.List.Sums.{length-filter}
 use Rattle.catalogue_rows.specs.Trying.{IsSumIn}
@@ -11,8 +11,8 @@ use Rattle.keeper_store.specs.declared.contents.Tables.{Tables}
 use Rattle.keeper_store.specs.declared.row_types.AlbumRow.{AlbumRow}
 use Rattle.keeper_store.specs.declared.row_types.RecordingRow.{RecordingRow}
 use Rattle.library_model.specs.RowRules.{has_album, is_in_album, member_count, members_in}
-use Rattle.library_model.proofs.Looking.{album_named, has_album-found, has_album-none, has_album-some}
-use Rattle.catalogue_core.specs.Resumming.{HasLevels, IsResummedIn}
+use Rattle.library_model.proofs.Looking.{album_named, has_album-none, has_album-some}
+use Rattle.catalogue_core.specs.Resumming.{IsResummedIn}
 
 -- an album is there where its row is found
 pub there_as_found : (id : ℕ) (rows : List AlbumRow) (found : Option (Bor AlbumRow))
@@ -35,10 +35,3 @@ levels_row t next album row summary is sums = record {
   row_is = refl;
   summed = subst (λ (n : ℕ). IsSumIn next n summary) (sym (album_named album t.albums row is)) sums;
 }
-
--- An album that is there has a row.
-pub no_row : (t next : Tables) (album : ℕ) (levels : Option Summary) → find (λ (a : AlbumRow). a.id == album) t.albums ≡ None
-    → HasLevels t next album levels → ⊥
-no_row t next album levels none has =
-    let found = has_album-found album t.albums has.there in
-    absurd (cc (sym none ∙ found.1))

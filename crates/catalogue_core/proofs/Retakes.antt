@@ -57,7 +57,7 @@ retake_joins s id old file m tally valid there within stands =
 -- What is planned of a new take of which that is measured, with its levels, and the row of its album.
 pub record IsRetake (s : State) (old : RecordingRow) (file : List ℕ) (summary : Summary) (resummed : Option AlbumRow) (plan : Plan) (m : Measured) : Type 0 where
   pub is : IsPlan (retake_changes (next_numbers (tables_of s)) m (row_in s old file m summary) ++ DropSegments old.take ∷ map PutAlbum (in_list resummed))
-  (Some old.take) (row_reply 200 (row_in s old file m summary)) plan
+      (Some old.take) (row_reply 200 (row_in s old file m summary)) plan
   pub sums : IsResummedIn (tables_of s) (tables_after s old file m summary) old.album resummed
   pub tally : Tallied
   pub fresh : plan.fresh ≡ record { tally = Some tally; album = None }

@@ -10,7 +10,7 @@ ghost use Rattle.catalogue_rows.specs.Making.{IsEmptyAlbum};
 ghost use Rattle.catalogue_core.specs.Plans.{DecidesOn, IsPlan, Leaves};
 
 use crate::Library;
-use crate::looking::count_of;
+use crate::looking::{has_members, is_there};
 use crate::plans::{Decision, MOST_CHANGES, NUMBERS_END, Plan};
 use crate::refusing::refused;
 use album_merge::Album;
@@ -87,14 +87,14 @@ pub(crate) fn decide_remove_album(library: &mut Library, id: u32) -> Result<Deci
     ensures leaves { Leaves library.old library.new result }
 {
     let alloc = library.alloc;
-    match count_of(library, id) {
-        None => refused(alloc, Refusal::NoAlbum),
-        Some(0) => {
-            library.rows.reserve(MOST_CHANGES)?;
-            Ok(Decision::Planned(plan_remove_album(alloc, id)?))
-        }
-        Some(_) => refused(alloc, Refusal::NotEmpty),
+    if !is_there(library, Some(id)) {
+        return refused(alloc, Refusal::NoAlbum);
     }
+    if has_members(library, id) {
+        return refused(alloc, Refusal::NotEmpty);
+    }
+    library.rows.reserve(MOST_CHANGES)?;
+    Ok(Decision::Planned(plan_remove_album(alloc, id)?))
 }
 
 /// The change that removes an album.

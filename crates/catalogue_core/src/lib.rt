@@ -16,6 +16,7 @@ mod examining;
 mod importing;
 mod libraries;
 mod looking;
+mod planning;
 mod plans;
 mod prepared;
 mod putting;
