@@ -45,7 +45,7 @@ start() {
     cd "$1" || exit 1
     "$program" serve --connections 65535 >>lines 2>>faults &
     pid=$!
-    for ((i = 0; i < 600; i++)); do
+    for ((i = 0; i < 1200; i++)); do
         curl -s -o /dev/null "$server/albums/1" && return
         kill -0 "$pid" 2>/dev/null || break
         sleep 0.1
