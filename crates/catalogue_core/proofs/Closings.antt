@@ -28,9 +28,10 @@ there_still albums new (row ∷ rows) there = (has_album-put row.id new albums t
 pub closing_fits : (albums : List AlbumRow) (token mark : List ℕ) (reply : Reply) (fresh : Fresh) (t : Tables)
     → AreThere t.albums albums → FitsAll (closing albums token mark reply) fresh t
 closing_fits [] token mark reply fresh t there = (tt, tt)
-closing_fits (row ∷ albums) token mark reply fresh t there =
-    (inl there.0,
-    closing_fits albums token mark reply (record fresh { album = None }) (changed (PutAlbum row) t) (there_still t.albums row albums there.1))
+closing_fits (row ∷ albums) token mark reply fresh t there = (
+  inl there.0,
+  closing_fits albums token mark reply (record fresh { album = None }) (changed (PutAlbum row) t) (there_still t.albums row albums there.1),
+)
 
 -- The row of an album with other levels has its id.
 pub resummed_id : (t next : Tables) (id : ℕ) (row : AlbumRow) → IsResummed t.albums next id row → row.id ≡ id

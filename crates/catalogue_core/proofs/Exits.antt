@@ -4,9 +4,10 @@ use Rattle.std.specs.Prelude.{IfOk}
 use Rattle.std.proofs.lemmas.Bool.Decides.{nat_tests}
 use Rattle.std.proofs.lemmas.Result.{IfOk-weaker}
 use Rattle.lib_base.specs.declared.outcomes.Memory.{Memory}
+use Rattle.lib_base.specs.declared.limits.TheConstants.{NUMBERS_END}
 use Rattle.library_model.specs.Asked.{change, command}
 use Rattle.library_model.specs.Machine.{Decides, stays}
-use Rattle.library_model.specs.State.{State, numbers_end}
+use Rattle.library_model.specs.State.{State}
 use Rattle.library_model.specs.declared.messages.Command.{Command}
 use Rattle.library_model.specs.declared.messages.Reply.{Reply}
 use Rattle.catalogue_core.specs.Kept.{HoldsAgain, numbers_of, released_of}
@@ -23,11 +24,11 @@ refuses r s token mark wanted reply is decides =
     (λ made same. subst (DecidedFrom s token mark wanted) (sym same) decides) is
 
 -- no number is left
-pub at_end : (n : ℕ) → numbers_end ≤ n → nat_le numbers_end n ≡ true
+pub at_end : (n : ℕ) → NUMBERS_END ≤ n → nat_le NUMBERS_END n ≡ true
 at_end n ends = grind (arith, nat_tests, ends)
 
 -- one is left
-pub not_at_end : (n : ℕ) → n < numbers_end → nat_le numbers_end n ≡ false
+pub not_at_end : (n : ℕ) → n < NUMBERS_END → nat_le NUMBERS_END n ≡ false
 not_at_end n left = grind (arith, nat_tests, left)
 
 -- What leaves the library after it is held again leaves it.

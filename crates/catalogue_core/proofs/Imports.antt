@@ -96,9 +96,16 @@ import_fits s album name file m tally albums token mark valid there few within s
     measured_after (changed (Counters s.next_album (s.next_recording + 1) (s.next_take + 1)) t) row m tally within stands refl refl refl in
     let puts = import_puts s album name file m tally.summary valid there few in
     let fits = fits_recording t now row (Some tally) puts refl refl (subst (StandsForMeasured tally) (sym same) stands) in
-    let after = tables_after s album name file m tally.summary in
-    (tt, (unnamed_next s valid, (fits,
-    closing_fits albums token mark (row_reply 201 row) (record { tally = None; album = None }) after (resummed_there t after (ids_in album) albums sums))))
+    let after = tables_after s album name file m tally.summary in (
+      tt,
+      (
+        unnamed_next s valid,
+        (
+          fits,
+          closing_fits albums token mark (row_reply 201 row) (record { tally = None; album = None }) after (resummed_there t after (ids_in album) albums sums),
+        ),
+      ),
+    )
 
 -- A planned import of a sound is what is decided.
 import_of_sound : (s : State) (token mark : List ℕ) (album : Option ℕ) (name file : List ℕ) (sound : Pcm) (summary : Summary)
@@ -113,8 +120,8 @@ import_of_sound s token mark album name file sound summary resummed plan open_ h
     let sums = resummed_list t (tables_after s album name file m summary) album resummed import.sums in
     let leads = import_leads s token mark album name file sound summary albums open_.valid open_.fresh home.named limit home.there finds few left sums in
     let Fits : Summary → Type 0 = λ u. AreResummed t.albums (tables_after s album name file m u) (ids_in album) albums
-        → FitsAll (import_batch (next_numbers t) m (row_in s album name file m u) albums token mark (row_reply 201 (row_in s album name file m u)))
-        (record { tally = Some import.tally; album = None }) t in
+    → FitsAll (import_batch (next_numbers t) m (row_in s album name file m u) albums token mark (row_reply 201 (row_in s album name file m u)))
+    (record { tally = Some import.tally; album = None }) t in
     let fits = subst Fits import.levels
     (import_fits s album name file m import.tally albums token mark open_.valid home.there few within import.stands) sums in
     planned s token mark (Import album name file) (import_changes (next_numbers t) m row ++ map PutAlbum albums) None (row_reply 201 row) plan import.is

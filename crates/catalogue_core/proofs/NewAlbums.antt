@@ -1,6 +1,7 @@
 -- New albums, and albums that are removed, are decided as the machine decides them.
 use Rattle.std.proofs.Common.{◌≡◌, ℕ, true, false, List, [], ◌∷◌, None, nat_le, nat_lt, refl, inr}
 use Rattle.std.specs.List.{AllByRecursion}
+use Rattle.lib_base.specs.declared.limits.TheConstants.{NUMBERS_END}
 use Rattle.catalogue_rows.specs.Making.{HasNoMembers, IsEmptyAlbum}
 use Rattle.keeper_store.specs.Changes.{next_numbers}
 use Rattle.keeper_store.specs.declared.contents.Change.TheVariants.{DropAlbum}
@@ -10,7 +11,7 @@ use Rattle.library_model.specs.Bodies.{album_row_reply, removed_reply}
 use Rattle.library_model.specs.Machine.{kept_under}
 use Rattle.library_model.specs.RowRules.{has_album, is_in_album, member_count, members_in}
 use Rattle.library_model.specs.Stands.{IsValid, tables_of}
-use Rattle.library_model.specs.State.{State, numbers_end}
+use Rattle.library_model.specs.State.{State}
 use Rattle.library_model.specs.declared.messages.Command.TheVariants.{NewAlbum, RemoveAlbum}
 use Rattle.library_model.proofs.LeadsAlbums.{new_album_leads, remove_album_leads}
 use Rattle.library_model.proofs.MadeStates.{none_in_next}
@@ -27,7 +28,7 @@ no_members id (r ∷ rows) none = rw none.0 (no_members id rows none.1)
 
 -- A planned album is what is decided.
 pub new_album_decided : (s : State) (token mark name : List ℕ) (plan : Plan) → IsValid s → kept_under token s.replies ≡ None
-    → nat_le numbers_end s.next_album ≡ false
+    → nat_le NUMBERS_END s.next_album ≡ false
     → IsPlan (new_album_changes (next_numbers (tables_of s)) (new_album_row (next_numbers (tables_of s)) name)) None
     (album_row_reply 201 (new_album_row (next_numbers (tables_of s)) name) []) plan
     → IsEmptyAlbum plan.fresh.album → DecidedFrom s token mark (NewAlbum name) (Planned plan)

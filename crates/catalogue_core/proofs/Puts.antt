@@ -7,6 +7,7 @@ use Rattle.album_merge.specs.Tallies.{Tallied, StandsForMeasured}
 use Rattle.catalogue_rows.specs.Making.{FitsRecording, HasTally, Moves}
 use Rattle.catalogue_rows.specs.Trying.{HasPlaceFor, MeasuresOthers, PutsRow}
 use Rattle.lib_base.specs.declared.files.Measured.{Measured}
+use Rattle.lib_base.specs.declared.limits.TheConstants.{MOST_MEMBERS}
 use Rattle.keeper_store.specs.Changes.{changed}
 use Rattle.keeper_store.specs.EnergyBytes.{energies_in}
 use Rattle.keeper_store.specs.Puts.{put, recording_less, segments_less}
@@ -15,7 +16,6 @@ use Rattle.keeper_store.specs.declared.contents.Tables.{Tables}
 use Rattle.keeper_store.specs.declared.row_types.AlbumRow.{AlbumRow}
 use Rattle.keeper_store.specs.declared.row_types.RecordingRow.{RecordingRow}
 use Rattle.keeper_store.specs.declared.row_types.SegmentRow.{SegmentRow}
-use Rattle.library_model.specs.declared.limits.TheConstants.{MOST_MEMBERS}
 use Rattle.library_model.specs.RowRules.{album_is_there, energies_of_take, has_album, measured_in, member_count}
 use Rattle.library_model.specs.Stands.{segments_of}
 use Rattle.library_model.proofs.Counting.{at_there}
@@ -40,7 +40,7 @@ pub place_for : (t next : Tables) (row : RecordingRow) (album : ℕ) → row.alb
 place_for t next row album is comes puts = record {
   there = subst (λ (a : Option ℕ). album_is_there a t.albums ≡ true) is puts.there;
   few = subst (λ (rows : List RecordingRow). member_count album rows ≤ MOST_MEMBERS) (sym comes.recordings)
-  (subst (λ (a : Option ℕ). IfSome a (λ album. member_count album (put_row row t) ≤ MOST_MEMBERS)) is (few_in t row puts));
+      (subst (λ (a : Option ℕ). IfSome a (λ album. member_count album (put_row row t) ≤ MOST_MEMBERS)) is (few_in t row puts));
 }
   where
     put_row : RecordingRow → Tables → List RecordingRow
@@ -52,7 +52,7 @@ pub fits_recording : (t now : Tables) (row : RecordingRow) (tally : Option Talli
 fits_recording t now row tally puts albums recordings has = record {
   there = subst (λ (rows : List AlbumRow). album_is_there row.album rows ≡ true) (sym albums) puts.there;
   few = subst (λ (rows : List RecordingRow). IfSome row.album (λ album. member_count album (put recording_less row rows) ≤ MOST_MEMBERS))
-  (sym recordings) (few_in t row puts);
+      (sym recordings) (few_in t row puts);
   its = has;
 }
 

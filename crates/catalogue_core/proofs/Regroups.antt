@@ -159,9 +159,11 @@ regroup_decided s token mark id old album left joined plan open_ there home few 
     let leads = regroup_leads s token mark id album old albums open_.valid open_.fresh there home few sums in
     let puts = regroup_puts s id album old open_.valid there home few in
     let fits = fits_recording t t row None puts refl refl (moves s id old album open_.valid there) in
-    planned s token mark (Regroup id album) (PutRecording row ∷ map PutAlbum albums) None (row_reply 200 row) plan is leads
-    (rw none fits, closing_fits albums token mark (row_reply 200 row) (record plan.fresh { tally = None }) next
-    (resummed_there t next (moved old.album album) albums sums))
+    planned s token mark (Regroup id album) (PutRecording row ∷ map PutAlbum albums) None (row_reply 200 row) plan is leads (
+      rw none fits,
+      closing_fits albums token mark (row_reply 200 row) (record plan.fresh { tally = None }) next
+          (resummed_there t next (moved old.album album) albums sums),
+    )
 
 -- A recording that stays where it is changes nothing but the kept reply.
 pub stay_decided : (s : State) (token mark : List ℕ) (id : ℕ) (old : RecordingRow) (album : Option ℕ) (plan : Plan) → IsOpenTo s token → HasRow s id old
@@ -184,7 +186,11 @@ remove_decided s token mark id old resummed plan open_ there goes is =
     let sums = resummed_list t next old.album resummed goes in
     let leads = remove_leads s token mark id old albums open_.valid open_.fresh there sums in
     planned s token mark (RemoveRecording id) (DropRecording old.id ∷ DropSegments old.take ∷ map PutAlbum albums) (Some old.take)
-    (removed_reply old.id) plan is leads
-    (tt, (remove_frees s id old open_.valid there,
-    closing_fits albums token mark (removed_reply old.id) plan.fresh (changed (DropSegments old.take) next)
-    (resummed_there t next (ids_in old.album) albums sums)))
+    (removed_reply old.id) plan is leads (
+      tt,
+      (
+        remove_frees s id old open_.valid there,
+        closing_fits albums token mark (removed_reply old.id) plan.fresh (changed (DropSegments old.take) next)
+            (resummed_there t next (ids_in old.album) albums sums),
+      ),
+    )

@@ -5,6 +5,7 @@ use Rattle.album_merge.specs.Tallies.{Tallied, StandsForMeasured}
 use Rattle.catalogue_rows.specs.Making.{FitsAll}
 use Rattle.lib_base.specs.declared.files.Measured.{Measured}
 use Rattle.lib_base.specs.declared.files.Summary.{Summary}
+use Rattle.lib_base.specs.declared.limits.TheConstants.{NUMBERS_END}
 use Rattle.file_model.specs.Pcm.{Pcm}
 use Rattle.keeper_store.specs.Changes.{changed, changed_all, next_numbers}
 use Rattle.keeper_store.specs.declared.contents.Change.TheVariants.{Counters, DropSegments, PutAlbum, PutSegments}
@@ -16,7 +17,7 @@ use Rattle.library_model.specs.Bodies.{row_reply}
 use Rattle.library_model.specs.Findings.{Finds, measured as found, measured_of}
 use Rattle.library_model.specs.RowRules.{measured_in}
 use Rattle.library_model.specs.Stands.{IsValid, IsWithinLimit, segments_of, tables_of}
-use Rattle.library_model.specs.State.{State, numbers_end}
+use Rattle.library_model.specs.State.{State}
 use Rattle.library_model.specs.declared.messages.Command.TheVariants.{Retake}
 use Rattle.sound_model.specs.Summaries.{IsWithinBounds}
 use Rattle.library_model.proofs.LeadsRetake.{retake_leads}
@@ -79,15 +80,25 @@ retake_fits s id old file m tally albums token mark valid there within stands su
     let puts = retake_puts s id old file m tally.summary valid there in
     let fits = fits_recording t now row (Some tally) puts refl refl (subst (StandsForMeasured tally) (sym same) stands) in
     let after = tables_after s old file m tally.summary in
-    let frees = retake_frees s id old file m tally.summary valid there in
-    (tt, (unnamed_next s valid, (fits, (frees,
-    closing_fits albums token mark (row_reply 200 row) (record { tally = None; album = None }) (changed (DropSegments old.take) after)
-    (resummed_there t after (ids_in old.album) albums sums)))))
+    let frees = retake_frees s id old file m tally.summary valid there in (
+      tt,
+      (
+        unnamed_next s valid,
+        (
+          fits,
+          (
+            frees,
+            closing_fits albums token mark (row_reply 200 row) (record { tally = None; album = None }) (changed (DropSegments old.take) after)
+                (resummed_there t after (ids_in old.album) albums sums),
+          ),
+        ),
+      ),
+    )
 
 -- A planned take of a sound is what is decided.
 retake_of_sound : (s : State) (token mark : List ℕ) (id : ℕ) (old : RecordingRow) (file : List ℕ) (sound : Pcm) (summary : Summary)
     (resummed : Option AlbumRow) (plan : Plan) → IsOpenTo s token → HasRow s id old → IsWithinLimit file → Finds file (found sound summary)
-    → IsWithinBounds (measured_of sound) → nat_le numbers_end s.next_take ≡ false
+    → IsWithinBounds (measured_of sound) → nat_le NUMBERS_END s.next_take ≡ false
     → IsRetake s old file summary resummed plan (measured_of sound) → DecidedFrom s token mark (Retake id file) (Planned plan)
 retake_of_sound s token mark id old file sound summary resummed plan open_ there limit finds within left retake =
     let t = tables_of s in
@@ -97,8 +108,8 @@ retake_of_sound s token mark id old file sound summary resummed plan open_ there
     let sums = resummed_list t (tables_after s old file m summary) old.album resummed retake.sums in
     let leads = retake_leads s token mark id old file sound summary albums open_.valid open_.fresh limit there finds left sums in
     let Fits : Summary → Type 0 = λ u. AreResummed t.albums (tables_after s old file m u) (ids_in old.album) albums
-        → FitsAll (retake_batch (next_numbers t) m old (row_in s old file m u) albums token mark (row_reply 200 (row_in s old file m u)))
-        (record { tally = Some retake.tally; album = None }) t in
+    → FitsAll (retake_batch (next_numbers t) m old (row_in s old file m u) albums token mark (row_reply 200 (row_in s old file m u)))
+    (record { tally = Some retake.tally; album = None }) t in
     let fits = subst Fits retake.levels (retake_fits s id old file m retake.tally albums token mark open_.valid there within retake.stands) sums in
     planned s token mark (Retake id file) (retake_changes (next_numbers t) m row ++ DropSegments old.take ∷ map PutAlbum albums) (Some old.take)
     (row_reply 200 row) plan retake.is leads (rw retake.fresh fits)
@@ -106,7 +117,7 @@ retake_of_sound s token mark id old file sound summary resummed plan open_ there
 -- So is one of what is measured of an accepted file.
 pub retake_decided : (s : State) (token mark : List ℕ) (id : ℕ) (old : RecordingRow) (file : List ℕ) (m : Measured) (tally : Tallied)
     (resummed : Option AlbumRow) (plan : Plan) → IsOpenTo s token → HasRow s id old → IsTake file m tally
-    → nat_le numbers_end s.next_take ≡ false → IsRetake s old file tally.summary resummed plan m
+    → nat_le NUMBERS_END s.next_take ≡ false → IsRetake s old file tally.summary resummed plan m
     → DecidedFrom s token mark (Retake id file) (Planned plan)
 retake_decided s token mark id old file m tally resummed plan open_ there take left retake =
     let is = take.measured.measured_is in

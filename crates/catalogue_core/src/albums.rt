@@ -5,7 +5,6 @@ ghost use Rattle.library_model.specs.declared.messages.Command.TheVariants as wa
 ghost use Rattle.library_model.specs.Batches.{new_album_changes, new_album_row};
 ghost use Rattle.library_model.specs.Bodies.{album_row_reply, removed_reply};
 ghost use Rattle.library_model.specs.Machine.{no_levels};
-ghost use Rattle.library_model.specs.State.{numbers_end};
 ghost use Rattle.catalogue_rows.specs.Making.{IsEmptyAlbum};
 ghost use Rattle.catalogue_core.specs.Plans.{DecidesOn, IsPlan, Leaves};
 
@@ -37,7 +36,7 @@ pub(crate) fn decide_new_album(library: &mut Library, name: &Text) -> Result<Dec
 
 /// The change that makes an album of this name under the next number.
 fn plan_new_album(alloc: Global, next: NextNumbers, name: &Text) -> Result<Plan, Memory>
-    requires { nat_le numbers_end next.album ≡ false }
+    requires { nat_le NUMBERS_END next.album ≡ false }
     ensures plan { IfOk result (IsPlan (new_album_changes next (new_album_row next name.now)) None
         (album_row_reply 201 (new_album_row next name.now) [])) }
     ensures empty { IfOk result (λ plan. IsEmptyAlbum plan.fresh.album) }

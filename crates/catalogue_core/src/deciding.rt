@@ -35,10 +35,27 @@ pub(crate) fn decide<R: Threads + Sync, G: Gate, L: Ledger>(
     match command {
         Command::NewAlbum { name } => decide_new_album(library, name),
         Command::Import { album, name, bytes } => {
-            decide_import(rt, library, *album, name, bytes.as_slice(), workers, gate, steps)
+            decide_import(
+                rt,
+                library,
+                *album,
+                name,
+                bytes.as_slice(),
+                workers,
+                gate,
+                steps,
+            )
         }
         Command::Retake { recording, bytes } => {
-            decide_retake(rt, library, *recording, bytes.as_slice(), workers, gate, steps)
+            decide_retake(
+                rt,
+                library,
+                *recording,
+                bytes.as_slice(),
+                workers,
+                gate,
+                steps,
+            )
         }
         Command::Regroup { recording, album } => decide_regroup(library, *recording, *album, steps),
         Command::RemoveRecording { recording } => decide_remove(library, *recording, steps),

@@ -2,8 +2,8 @@
 ghost use Rattle.catalogue_core.specs.Opening.{OpensTables};
 
 use catalogue_rows::{CatalogueRows, NotOpened, open_rows};
-use kept_replies::{Seen, Token};
 use keeper_store::{Keeper, Tables};
+use kept_replies::{Seen, Token};
 use lib_base::Outside;
 use library_model::BadRow;
 use std::alloc::Global;

@@ -5,7 +5,7 @@ ghost use Rattle.keeper_store.specs.declared.contents.Change.TheVariants as chan
 ghost use Rattle.library_model.specs.declared.messages.Command.TheVariants as wanted;
 ghost use Rattle.library_model.specs.Batches.{retake_changes};
 ghost use Rattle.library_model.specs.Stands.{IsWithinLimit, tables_of};
-ghost use Rattle.library_model.specs.State.{State, numbers_end};
+ghost use Rattle.library_model.specs.State.{State};
 ghost use Rattle.measure_pool.specs.declared.plans.TheConstants.{MOST_WORKERS};
 ghost use Rattle.catalogue_rows.specs.Room.{HasPlaceIn, HasRoom};
 ghost use Rattle.catalogue_core.specs.declared.plans.TheConstants.{MOST_CHANGES};
@@ -93,7 +93,7 @@ fn plan_retake<L: Ledger>(
     steps: &mut Steps<L>,
 ) -> Result<Decision, Memory>
     requires energies { AreEnergies measured.now.energies }
-    requires left { nat_le numbers_end (numbers_of library.old).take ≡ false }
+    requires left { nat_le NUMBERS_END (numbers_of library.old).take ≡ false }
     requires room { HasRoom library.old.rows MOST_CHANGES }
     requires place { HasPlaceIn library.old.rows old.album }
     ensures decides { (s : State) (token mark : List ℕ) → Holds library.old (tables_of s) → IsOpenTo s token → HasRow s id old
@@ -128,7 +128,7 @@ fn changes_of(
     album: Option<AlbumRow>,
 ) -> Result<Vec<Change>, Memory>
     requires energies { AreEnergies measured.now.energies }
-    requires left { nat_le numbers_end next.take ≡ false }
+    requires left { nat_le NUMBERS_END next.take ≡ false }
     ensures { IfOk result (λ changes. changes.items ≡ retake_changes next measured.now row ++ change.DropSegments taken ∷ map change.PutAlbum (in_list album)) }
 {
     let mut changes = Vec::with_capacity(alloc, MOST_CHANGES)?;

@@ -55,12 +55,7 @@ fn prepare(alloc: Global, token: Token, mark: [u8; 16], plan: Plan) -> Result<Pr
 }
 
 /// What is kept of a reply.
-fn reply_row(
-    alloc: Global,
-    token: Token,
-    mark: [u8; 16],
-    reply: &Reply,
-) -> Result<ReplyRow, Memory>
+fn reply_row(alloc: Global, token: Token, mark: [u8; 16], reply: &Reply) -> Result<ReplyRow, Memory>
     ensures { IfOk result (λ row. row ≡ kept_row (text_of token) mark reply.now) }
 {
     let body = Bytes::copy(alloc, reply.body.as_slice())?;

@@ -2,13 +2,13 @@
 use Rattle.std.proofs.Common.{◌≡◌, ◌==◌, ◌||◌, ℕ, Bool, true, false, not, cond, List, [], ◌∷◌, length, map, nat_le, nat_lt, Option, None, Some, refl, sym, ap, ◌∙◌, arith}
 use Rattle.std.specs.List.{find}
 use Rattle.std.proofs.lemmas.Bool.Decides.{nat_tests}
+use Rattle.lib_base.specs.declared.limits.TheConstants.{MOST_MEMBERS}
 use Rattle.keeper_store.specs.declared.contents.Tables.{Tables}
 use Rattle.keeper_store.specs.declared.row_types.AlbumRow.{AlbumRow}
 use Rattle.keeper_store.specs.declared.row_types.RecordingRow.{RecordingRow}
 use Rattle.keeper_store.specs.Puts.{recording_id}
 use Rattle.album_merge.specs.Members.{Kept, IsAlbumOf, ids_of, recording_id as id_of}
 use Rattle.album_merge.proofs.Joining.{ids_joined}
-use Rattle.library_model.specs.declared.limits.TheConstants.{MOST_MEMBERS}
 use Rattle.library_model.specs.RowRules.{has_album, measured_in, member_count, members_in}
 use Rattle.catalogue_rows.specs.Holding.{album_of}
 use Rattle.catalogue_rows.proofs.Backed.{long_as}

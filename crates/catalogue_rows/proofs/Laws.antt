@@ -4,6 +4,7 @@ use Rattle.std.specs.Prelude.{IfSome}
 use Rattle.std.specs.List.{AllByRecursion, find}
 use Rattle.std.specs.Str.{bytes_eq}
 use Rattle.std.proofs.lemmas.Bool.Decides.{nat_tests}
+use Rattle.lib_base.specs.declared.limits.TheConstants.{MOST_MEMBERS}
 use Rattle.keeper_store.specs.declared.contents.Change.{Change}
 use Rattle.keeper_store.specs.declared.contents.Change.TheVariants.{Counters, PutRecording, PutSegments, DropRecording}
 use Rattle.keeper_store.specs.declared.contents.Tables.{Tables}
@@ -16,7 +17,6 @@ use Rattle.keeper_store.specs.Puts.{put, recording_less}
 use Rattle.keeper_store.proofs.Putting.{AllByRecursion-weaken}
 use Rattle.kept_replies.proofs.KeptRows.{fresh_held, held_fresh}
 use Rattle.album_merge.specs.Members.{Kept}
-use Rattle.library_model.specs.declared.limits.TheConstants.{MOST_MEMBERS}
 use Rattle.library_model.specs.RowRules.{album_is_there, has_album, measured_in, member_count}
 use Rattle.catalogue_rows.specs.declared.fresh.Fresh.{Fresh}
 use Rattle.catalogue_rows.specs.declared.kept.KeptAlbum.{KeptAlbum}

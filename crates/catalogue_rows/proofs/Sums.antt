@@ -7,12 +7,12 @@ use Rattle.std.proofs.lemmas.List.{length-map}
 use Rattle.std.proofs.lemmas.List.Sums.{length-filter}
 use Rattle.lib_base.specs.declared.files.Measured.{Measured}
 use Rattle.lib_base.specs.declared.files.Summary.{Summary}
+use Rattle.lib_base.specs.declared.limits.TheConstants.{MOST_MEMBERS}
 use Rattle.keeper_store.specs.declared.contents.Tables.{Tables}
 use Rattle.keeper_store.specs.declared.row_types.RecordingRow.{RecordingRow}
 use Rattle.keeper_store.specs.Puts.{put, without, recording_less, recording_id, Ascends}
 use Rattle.sound_model.specs.Albums.{IsAlbumSummary}
 use Rattle.album_merge.specs.Members.{placed, measured_of, with_recording, without_recording, recording_id as id_of}
-use Rattle.library_model.specs.declared.limits.TheConstants.{MOST_MEMBERS}
 use Rattle.library_model.specs.RowRules.{measured_in, members_in, is_in_album, member_count}
 use Rattle.catalogue_rows.specs.Holding.{album_of}
 use Rattle.catalogue_rows.specs.Opening.{with_row}

@@ -1,6 +1,7 @@
 -- Which changes rows in memory can make.
 use Rattle.std.specs.Prelude.{◌≡◌, ◌≢◌, ◌≤◌, ◌==◌, ◌⊎◌, ℕ, true, List, [], ◌∷◌, Option, None, Some, IfSome, ⊤}
 use Rattle.std.specs.List.{AllByRecursion, find}
+use Rattle.lib_base.specs.declared.limits.TheConstants.{MOST_MEMBERS}
 use Rattle.keeper_store.specs.Changes.{changed}
 use Rattle.keeper_store.specs.Puts.{put, recording_less}
 use Rattle.keeper_store.specs.declared.contents.Change.{Change}
@@ -10,7 +11,6 @@ use Rattle.keeper_store.specs.declared.row_types.AlbumRow.{AlbumRow}
 use Rattle.keeper_store.specs.declared.row_types.RecordingRow.{RecordingRow}
 use Rattle.album_merge.specs.Members.{Kept, IsAlbumOf}
 use Rattle.album_merge.specs.Tallies.{Tallied, StandsForMeasured}
-use Rattle.library_model.specs.declared.limits.TheConstants.{MOST_MEMBERS}
 use Rattle.library_model.specs.RowRules.{album_is_there, has_album, measured_in, member_count, members_in}
 use Rattle.catalogue_rows.specs.declared.fresh.Fresh.{Fresh}
 

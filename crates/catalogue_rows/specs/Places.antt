@@ -2,13 +2,13 @@
 use Rattle.std.specs.Prelude.{◌≡◌, ◌<◌, ◌≤◌, ◌==◌, ℕ, List, length, map, Option, None, Some, IfSome, if◌then◌else◌, Vec, vec_len, vec_capacity}
 use Rattle.std.specs.List.{AllByRecursion}
 use Rattle.lib_base.specs.declared.files.Measured.{Measured}
+use Rattle.lib_base.specs.declared.limits.TheConstants.{MOST_MEMBERS}
 use Rattle.keeper_store.specs.declared.contents.Tables.{Tables}
 use Rattle.keeper_store.specs.Changes.{next_numbers}
 use Rattle.keeper_store.specs.Puts.{without, recording_id}
 use Rattle.album_merge.specs.Members.{IsAlbumOf, with_recording, without_recording}
 use Rattle.album_merge.specs.Tallies.{Tallied, StandsForMeasured}
 use Rattle.kept_replies.specs.Holding as replies
-use Rattle.library_model.specs.declared.limits.TheConstants.{MOST_MEMBERS}
 use Rattle.library_model.specs.RowRules.{is_in_album}
 use Rattle.catalogue_rows.specs.declared.kept.KeptAlbum.{KeptAlbum}
 use Rattle.catalogue_rows.specs.declared.kept.KeptRecording.{KeptRecording}

@@ -1,8 +1,8 @@
 -- What is kept under tokens, and which albums are full.
 use Rattle.std.specs.Prelude.{ℕ, Bool, false, List, Option, None, Some, nat_le}
+use Rattle.lib_base.specs.declared.limits.TheConstants.{MOST_MEMBERS}
 use Rattle.keeper_store.specs.declared.contents.Tables.{Tables}
 use Rattle.kept_replies.specs.Holding as replies
-use Rattle.library_model.specs.declared.limits.TheConstants.{MOST_MEMBERS}
 use Rattle.library_model.specs.RowRules.{member_count}
 use Rattle.catalogue_rows.specs.declared.rows.CatalogueRows.{CatalogueRows}
 

@@ -2,12 +2,12 @@
 use Rattle.std.specs.Prelude.{◌≡◌, ◌≢◌, ◌≤◌, ◌⊎◌, ℕ, true, false, map, Some}
 use Rattle.std.specs.List.{AllByRecursion}
 use Rattle.lib_base.specs.declared.files.Summary.{Summary}
+use Rattle.lib_base.specs.declared.limits.TheConstants.{MOST_MEMBERS}
 use Rattle.keeper_store.specs.Puts.{put, without, recording_id, recording_less}
 use Rattle.keeper_store.specs.declared.contents.Tables.{Tables}
 use Rattle.keeper_store.specs.declared.row_types.RecordingRow.{RecordingRow}
 use Rattle.album_merge.specs.Tallies.{Tallied, StandsForMeasured}
 use Rattle.sound_model.specs.Albums.{IsAlbumSummary}
-use Rattle.library_model.specs.declared.limits.TheConstants.{MOST_MEMBERS}
 use Rattle.library_model.specs.RowRules.{has_album, is_in_album, measured_in, member_count, members_in}
 use Rattle.catalogue_rows.specs.Making.{Moves}
 

@@ -4,11 +4,9 @@ ghost use Rattle.lib_base.specs.declared.files.Measured.{Measured};
 ghost use Rattle.sound_model.specs.Albums.{IsAlbumSummary};
 ghost use Rattle.album_merge.specs.Members.{IsAlbumOf, ids_of, measured_of, with_recording, without_recording};
 ghost use Rattle.album_merge.specs.Tallies.{StandsForMeasured};
-ghost use Rattle.library_model.specs.declared.limits.TheConstants.{MOST_MEMBERS};
 
 use album_merge::{Album, TrackTally};
-use lib_base::{Steps, Summary};
-use library_model::limits::MOST_MEMBERS;
+use lib_base::{MOST_MEMBERS, Steps, Summary};
 use std::sync::ledger::Ledger;
 
 /// Whether the album has fewer recordings than it can have.

@@ -4,6 +4,7 @@ use Rattle.std.specs.Prelude.{count_by}
 use Rattle.std.specs.List.{AllByRecursion}
 use Rattle.std.proofs.lemmas.Bool.Decides.{nat_tests}
 use Rattle.std.proofs.lemmas.List.Sums.{sum_by-cons}
+use Rattle.lib_base.specs.declared.limits.TheConstants.{MOST_MEMBERS}
 use Rattle.keeper_store.specs.Changes.{changed}
 use Rattle.keeper_store.specs.Puts.{without, album_id, album_less, recording_id, recording_less}
 use Rattle.keeper_store.specs.declared.contents.Change.TheVariants.{DropAlbum, DropRecording}
@@ -12,7 +13,6 @@ use Rattle.keeper_store.specs.declared.row_types.AlbumRow.{AlbumRow}
 use Rattle.keeper_store.specs.declared.row_types.RecordingRow.{RecordingRow}
 use Rattle.keeper_store.proofs.Dropping.{AllByRecursion-without, Ascends-without}
 use Rattle.keeper_store.proofs.Putting.{AllByRecursion-weaken}
-use Rattle.library_model.specs.declared.limits.TheConstants.{MOST_MEMBERS}
 use Rattle.library_model.specs.InOrder.{AreInOrder, Differ, IsGiven}
 use Rattle.library_model.specs.Names.{is_name}
 use Rattle.library_model.specs.RowRules.{album_is_there, has_album, is_in_album, member_count}

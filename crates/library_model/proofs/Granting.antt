@@ -1,5 +1,6 @@
 -- Imports and retakes that nothing refuses are granted.
 use Rattle.std.proofs.Common.{◌≡◌, ◌⊎◌, inl, inr, ℕ, Bool, true, false, Option, None, Some, nat_le, List, refl, sym, ap, ◌∙◌, subst}
+use Rattle.lib_base.specs.declared.limits.TheConstants.{NUMBERS_END}
 use Rattle.library_model.specs.declared.messages.Command.{Command}
 use Rattle.library_model.specs.declared.messages.Command.TheVariants.{NewAlbum, Import, Retake, Regroup, RemoveRecording, RemoveAlbum}
 use Rattle.library_model.specs.declared.refusals.Refusal.TheVariants.{Ids}
@@ -8,7 +9,7 @@ use Rattle.library_model.specs.Findings.{Finding, Finds, measured}
 use Rattle.library_model.specs.Granted.{IsGrantable, IsRetakable}
 use Rattle.library_model.specs.InOrder.{IsKeptStatus}
 use Rattle.library_model.specs.Machine.{Decides, DecidesChange, OfFile, OfRecording, Step, Sums, Verdict, keeping, kept_under, makes, recording_reply, retake_step, retaken, retaking, verdict_reply}
-use Rattle.library_model.specs.State.{Kept, Recording, State, numbers_end}
+use Rattle.library_model.specs.State.{Kept, Recording, State}
 use Rattle.library_model.proofs.Measuring.{Finds_unique}
 use Rattle.library_model.proofs.Verdicts.{import_granted, passed}
 
@@ -27,7 +28,7 @@ retake_granted s token mark id file verdict fresh may decides =
     let sums : OfFinding (measured may.sound may.summary) = subst OfFinding same by.2 in
     let step : Step = makes (λ _. recording_reply 200 (retaken s may.recording file may.sound may.summary))
     (retaking s may.recording file may.sound may.summary) in
-    let made : Sums step decided = passed (nat_le numbers_end s.next_take) Ids step decided may.left sums in
+    let made : Sums step decided = passed (nat_le NUMBERS_END s.next_take) Ids step decided may.left sums in
     ap (λ (v : Verdict). (verdict_reply v).status) of_fresh.2
     ∙ ap (λ (v : Verdict). (verdict_reply (keeping token mark v)).status) made.2
 

@@ -4,6 +4,7 @@ use Rattle.std.specs.Prelude.{count_by}
 use Rattle.std.specs.List.{AllByRecursion}
 use Rattle.std.proofs.lemmas.Bool.Decides.{nat_tests}
 use Rattle.std.proofs.lemmas.List.Sums.{sum_by-cons}
+use Rattle.lib_base.specs.declared.limits.TheConstants.{MOST_MEMBERS}
 use Rattle.keeper_store.specs.Changes.{changed, empty_tables}
 use Rattle.keeper_store.specs.Puts.{Ascends, put, album_less, recording_less, reply_less}
 use Rattle.keeper_store.specs.declared.contents.Change.TheVariants.{Counters, PutAlbum, PutRecording, PutReply}
@@ -14,7 +15,6 @@ use Rattle.keeper_store.specs.declared.row_types.SegmentRow.{SegmentRow}
 use Rattle.keeper_store.specs.declared.row_types.ReplyRow.{ReplyRow}
 use Rattle.keeper_store.specs.Orders.{albums_in_order, recordings_in_order, replies_in_order}
 use Rattle.keeper_store.proofs.Putting.{AllByRecursion-put, AllByRecursion-weaken, Ascends-put}
-use Rattle.library_model.specs.declared.limits.TheConstants.{MOST_MEMBERS}
 use Rattle.library_model.specs.InOrder.{AreInOrder, Differ, IsCounter, IsGiven, IsKeptStatus}
 use Rattle.library_model.specs.Names.{is_name, is_token}
 use Rattle.library_model.specs.RowRules.{album_is_there, has_album, member_count}

@@ -1,6 +1,7 @@
 -- The batches of new albums and of albums that are removed.
 use Rattle.std.proofs.Common.{◌≡◌, ◌∙◌, ℕ, true, false, nat_le, nat_lt, None, Some, List, [], ◌∷◌, length, refl, sym, ap, subst}
 use Rattle.std.specs.List.{AllByRecursion}
+use Rattle.lib_base.specs.declared.limits.TheConstants.{NUMBERS_END}
 use Rattle.keeper_store.specs.Changes.{next_numbers}
 use Rattle.keeper_store.specs.declared.contents.Change.TheVariants.{DropAlbum}
 use Rattle.keeper_store.specs.declared.row_types.AlbumRow.{AlbumRow}
@@ -17,7 +18,7 @@ use Rattle.library_model.specs.InOrder.{AreInOrder}
 use Rattle.library_model.specs.Machine.{Sums, is_there, kept_under, makes, new_album, no_levels, remove_album_step, removing_album, with_new_album}
 use Rattle.library_model.specs.RowRules.{has_album, is_in_album, member_count}
 use Rattle.library_model.specs.Stands.{IsSummed, IsValid, measured_all, members, recording_row, tables_of}
-use Rattle.library_model.specs.State.{Album, Recording, State, album_before, numbers_end}
+use Rattle.library_model.specs.State.{Album, Recording, State, album_before}
 use Rattle.library_model.proofs.Closing.{ButFor, albums_before_in_order}
 use Rattle.library_model.proofs.Imports.{AllByRecursion-weaker}
 use Rattle.library_model.proofs.InOrderLemmas.{AllByRecursion-unmap}
@@ -48,7 +49,7 @@ no_levels-summed = record {
 
 -- A new album, for which a number is left: its batch puts the counter and the album.
 pub new_album_leads : (s : State) (token mark name : List ℕ) → IsValid s → kept_under token s.replies ≡ None
-    → nat_le numbers_end s.next_album ≡ false
+    → nat_le NUMBERS_END s.next_album ≡ false
     → Leads s token mark (NewAlbum name)
     (new_album_batch (next_numbers (tables_of s)) (new_album_row (next_numbers (tables_of s)) name) token mark
     (album_row_reply 201 (new_album_row (next_numbers (tables_of s)) name) []))
@@ -59,7 +60,7 @@ new_album_leads s token mark name valid fresh left =
     let reply : Reply = album_row_reply 201 row [] in
     let made : Makes s u token (NewAlbum name) (new_album_changes (next_numbers (tables_of s)) row) reply = record {
       fresh = fresh;
-      decides = λ v sums. of_limit (nat_le numbers_end s.next_album) Ids (makes (λ _. reply) u) v left sums;
+      decides = λ v sums. of_limit (nat_le NUMBERS_END s.next_album) Ids (makes (λ _. reply) u) v left sums;
       rows = sym (tables_of-new_album s name);
     } in
     let none : members s.next_album s.recordings ≡ [] =

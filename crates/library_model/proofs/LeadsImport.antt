@@ -2,6 +2,7 @@
 use Rattle.std.proofs.Common.{◌≡◌, ◌≢◌, ◌||◌, ◌∙◌, ℕ, true, false, nat_le, Option, None, List, [], refl, sym, subst}
 use Rattle.std.specs.List.{AllByRecursion}
 use Rattle.lib_base.specs.declared.files.Summary.{Summary}
+use Rattle.lib_base.specs.declared.limits.TheConstants.{NUMBERS_END}
 use Rattle.file_model.specs.Pcm.{Pcm}
 use Rattle.keeper_store.specs.Changes.{changed_all, next_numbers}
 use Rattle.keeper_store.specs.Puts.{put}
@@ -21,7 +22,7 @@ use Rattle.library_model.specs.Machine.{OfFile, import_step, imported, is_crowde
 use Rattle.library_model.specs.Names.{is_name}
 use Rattle.library_model.specs.RowRules.{album_is_there, is_in_album}
 use Rattle.library_model.specs.Stands.{IsSummed, IsValid, IsWithinLimit, tables_of}
-use Rattle.library_model.specs.State.{Recording, State, numbers_end, recording_before}
+use Rattle.library_model.specs.State.{Recording, State, recording_before}
 use Rattle.library_model.proofs.Closing.{ButFor, Measures}
 use Rattle.library_model.proofs.Fitting.{import_crowds}
 use Rattle.library_model.proofs.Imports.{AllByRecursion-weaker, tables_of-imported}
@@ -45,7 +46,7 @@ import_others s new valid is =
 pub import_leads : (s : State) (token mark : List ℕ) (album : Option ℕ) (name file : List ℕ) (sound : Pcm) (summary : Summary)
     (rows : List AlbumRow) → IsValid s → kept_under token s.replies ≡ None → is_name name ≡ true → IsWithinLimit file
     → album_is_there album (tables_of s).albums ≡ true → Finds file (measured sound summary)
-    → crowds None album (tables_of s).recordings ≡ false → (nat_le numbers_end s.next_recording || nat_le numbers_end s.next_take) ≡ false
+    → crowds None album (tables_of s).recordings ≡ false → (nat_le NUMBERS_END s.next_recording || nat_le NUMBERS_END s.next_take) ≡ false
     → AreResummed (tables_of s).albums
     (changed_all (import_changes (next_numbers (tables_of s)) (measured_of sound)
     (import_row (next_numbers (tables_of s)) album name file (measured_of sound) summary)) (tables_of s)) (ids_in album) rows
@@ -68,11 +69,13 @@ import_leads s token mark album name file sound summary rows valid fresh named w
     let rows_are : next ≡ tables_of u = sym (tables_of-imported s album name file sound summary valid) in
     let made : Makes s u token wanted (import_changes n (measured_of sound) row) reply = record {
       fresh = fresh;
-      decides = λ v sums. of_there (is_there album s.albums) (OfFile file (import_step s album name file)) v here
-          (measured sound summary, finds,
-          of_limit (is_crowded album u.recordings) AlbumFull
-          (unless (nat_le numbers_end s.next_recording || nat_le numbers_end s.next_take) Ids (makes (λ _. reply) u)) v uncrowded
-          (of_limit (nat_le numbers_end s.next_recording || nat_le numbers_end s.next_take) Ids (makes (λ _. reply) u) v left sums));
+      decides = λ v sums. of_there (is_there album s.albums) (OfFile file (import_step s album name file)) v here (
+        measured sound summary,
+        finds,
+        of_limit (is_crowded album u.recordings) AlbumFull
+            (unless (nat_le NUMBERS_END s.next_recording || nat_le NUMBERS_END s.next_take) Ids (makes (λ _. reply) u)) v uncrowded
+            (of_limit (nat_le NUMBERS_END s.next_recording || nat_le NUMBERS_END s.next_take) Ids (makes (λ _. reply) u) v left sums),
+      );
       rows = rows_are;
     } in
     leads_closed s u token mark wanted (import_changes n (measured_of sound) row) (ids_in album) rows [] reply next made (albums_rise u are)

@@ -105,10 +105,10 @@ pub regroup_leads : (s : State) (token mark : List ℕ) (id : ℕ) (album : Opti
 regroup_leads s token mark id album old rows valid fresh found there =
     let at = recording_there s id old found in
     let Of : RecordingRow → Type 0 = λ q.
-        crowds q.album album (tables_of s).recordings ≡ false
-        → AreResummed (tables_of s).albums (changed (PutRecording (regroup_row q album)) (tables_of s)) (moved q.album album) rows
-        → Leads s token mark (Regroup id album) (regroup_batch (regroup_row q album) rows token mark (row_reply 200 (regroup_row q album)))
-        [] (row_reply 200 (regroup_row q album)) in
+    crowds q.album album (tables_of s).recordings ≡ false
+    → AreResummed (tables_of s).albums (changed (PutRecording (regroup_row q album)) (tables_of s)) (moved q.album album) rows
+    → Leads s token mark (Regroup id album) (regroup_batch (regroup_row q album) rows token mark (row_reply 200 (regroup_row q album)))
+    [] (row_reply 200 (regroup_row q album)) in
     subst Of at.2 (regroup_of s token mark id album at.0 rows valid fresh at.1 there)
 
 -- a recording that stays in its album leads to the state with its reply kept
@@ -137,7 +137,7 @@ regroup_stays s token mark id old valid fresh found =
       rows = ap (λ (rs : List Recording). tables_of (record s { recordings = rs })) (sym (regrouped_same s id r.album r valid at.1 refl));
     } in
     let Of : RecordingRow → Type 0 = λ q.
-        Leads s token mark (Regroup id q.album) (closing [] token mark (row_reply 200 q)) [] (row_reply 200 q) in
+    Leads s token mark (Regroup id q.album) (closing [] token mark (row_reply 200 q)) [] (row_reply 200 q) in
     subst Of at.2
     (leads_closed s u token mark wanted [] [] [] [] reply (tables_of u) made (albums_rise u are)
     (measures_made u are (made_files s wanted u valid tt makes_it))

@@ -82,6 +82,6 @@ pub remove_leads : (s : State) (token mark : List ℕ) (id : ℕ) (old : Recordi
 remove_leads s token mark id old rows valid fresh found =
     let at = recording_there s id old found in
     let Of : RecordingRow → Type 0 = λ q.
-        AreResummed (tables_of s).albums (changed (DropRecording q.id) (tables_of s)) (ids_in q.album) rows
-        → Leads s token mark (RemoveRecording id) (remove_batch q rows token mark (removed_reply q.id)) (q.take ∷ []) (removed_reply q.id) in
+    AreResummed (tables_of s).albums (changed (DropRecording q.id) (tables_of s)) (ids_in q.album) rows
+    → Leads s token mark (RemoveRecording id) (remove_batch q rows token mark (removed_reply q.id)) (q.take ∷ []) (removed_reply q.id) in
     subst Of at.2 (remove_of s token mark id at.0 rows valid fresh at.1)

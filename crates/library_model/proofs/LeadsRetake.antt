@@ -2,6 +2,7 @@
 use Rattle.std.proofs.Common.{◌≡◌, ◌≢◌, ◌+◌, ◌==◌, ◌∙◌, ◌++◌, ℕ, false, nat_le, None, Some, List, [], ◌∷◌, map, refl, sym, ap, subst}
 use Rattle.std.specs.List.{AllByRecursion, find}
 use Rattle.lib_base.specs.declared.files.Summary.{Summary}
+use Rattle.lib_base.specs.declared.limits.TheConstants.{NUMBERS_END}
 use Rattle.file_model.specs.Pcm.{Pcm}
 use Rattle.keeper_store.specs.Changes.{changed, changed_all, next_numbers}
 use Rattle.keeper_store.specs.Puts.{put, recording_less, segments_less, segments_take, without}
@@ -22,7 +23,7 @@ use Rattle.library_model.specs.InOrder.{AreInOrder}
 use Rattle.library_model.specs.Machine.{OfFile, kept_under, makes, recording_of, retake_step, retaken, retaking}
 use Rattle.library_model.specs.RowRules.{is_in_album}
 use Rattle.library_model.specs.Stands.{IsSummed, IsValid, IsWithinLimit, album_row, recording_row, reply_row, segment_row, segment_rows, tables_of}
-use Rattle.library_model.specs.State.{Recording, State, numbers_end, recording_before}
+use Rattle.library_model.specs.State.{Recording, State, recording_before}
 use Rattle.library_model.proofs.Closing.{ButFor, Measures}
 use Rattle.library_model.proofs.Leading.{Leads, Makes, albums_rise, leads_closed, measures_made}
 use Rattle.library_model.proofs.Looking.{recording_there}
@@ -71,7 +72,7 @@ retake_others s id r new valid found same_id same_album =
 -- a new take of a recording leads to the state that has it
 retake_of : (s : State) (token mark : List ℕ) (id : ℕ) (r : Recording) (file : List ℕ) (sound : Pcm) (summary : Summary) (rows : List AlbumRow)
     → IsValid s → kept_under token s.replies ≡ None → IsWithinLimit file → recording_of id s.recordings ≡ Some r
-    → Finds file (measured sound summary) → nat_le numbers_end s.next_take ≡ false
+    → Finds file (measured sound summary) → nat_le NUMBERS_END s.next_take ≡ false
     → AreResummed (tables_of s).albums (changed_all (retake_changes (next_numbers (tables_of s)) (measured_of sound)
     (recording_row (retaken s r file sound summary))) (tables_of s)) (ids_in r.album) rows
     → Leads s token mark (Retake id file)
@@ -92,7 +93,7 @@ retake_of s token mark id r file sound summary rows valid fresh within found fin
     let made : Makes s u token wanted (retake_changes n (measured_of sound) row ++ DropSegments r.take ∷ []) (row_reply 200 row) = record {
       fresh = fresh;
       decides = λ v sums. of_found (recording_of id s.recordings) r (λ q. OfFile file (retake_step s q file)) v found
-          (measured sound summary, finds, of_limit (nat_le numbers_end s.next_take) Ids (makes (λ _. row_reply 200 row) u) v left sums);
+          (measured sound summary, finds, of_limit (nat_le NUMBERS_END s.next_take) Ids (makes (λ _. row_reply 200 row) u) v left sums);
       rows = rows_are;
     } in
     leads_closed s u token mark wanted (retake_changes n (measured_of sound) row ++ DropSegments r.take ∷ []) (ids_in r.album) rows (r.take ∷ [])
@@ -106,7 +107,7 @@ retake_of s token mark id r file sound summary rows valid fresh within found fin
 pub retake_leads : (s : State) (token mark : List ℕ) (id : ℕ) (old : RecordingRow) (file : List ℕ) (sound : Pcm) (summary : Summary)
     (rows : List AlbumRow) → IsValid s → kept_under token s.replies ≡ None → IsWithinLimit file
     → find (λ (row : RecordingRow). row.id == id) (tables_of s).recordings ≡ Some old → Finds file (measured sound summary)
-    → nat_le numbers_end s.next_take ≡ false
+    → nat_le NUMBERS_END s.next_take ≡ false
     → AreResummed (tables_of s).albums (changed_all (retake_changes (next_numbers (tables_of s)) (measured_of sound)
     (retake_row (next_numbers (tables_of s)) old file (measured_of sound) summary)) (tables_of s)) (ids_in old.album) rows
     → Leads s token mark (Retake id file)
@@ -117,9 +118,9 @@ retake_leads s token mark id old file sound summary rows valid fresh within foun
     let at = recording_there s id old found in
     let row_for : RecordingRow → RecordingRow = λ q. retake_row (next_numbers (tables_of s)) q file (measured_of sound) summary in
     let Of : RecordingRow → Type 0 = λ q.
-        AreResummed (tables_of s).albums (changed_all (retake_changes (next_numbers (tables_of s)) (measured_of sound) (row_for q)) (tables_of s))
-        (ids_in q.album) rows
-        → Leads s token mark (Retake id file)
-        (retake_batch (next_numbers (tables_of s)) (measured_of sound) q (row_for q) rows token mark (row_reply 200 (row_for q)))
-        (q.take ∷ []) (row_reply 200 (row_for q)) in
+    AreResummed (tables_of s).albums (changed_all (retake_changes (next_numbers (tables_of s)) (measured_of sound) (row_for q)) (tables_of s))
+    (ids_in q.album) rows
+    → Leads s token mark (Retake id file)
+    (retake_batch (next_numbers (tables_of s)) (measured_of sound) q (row_for q) rows token mark (row_reply 200 (row_for q)))
+    (q.take ∷ []) (row_reply 200 (row_for q)) in
     subst Of at.2 (retake_of s token mark id at.0 file sound summary rows valid fresh within at.1 finds left)

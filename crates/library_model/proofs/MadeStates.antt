@@ -3,6 +3,7 @@ use Rattle.std.proofs.Common.{◌≡◌, ◌≢◌, ◌≤◌, ◌<◌, ◌+◌,
 use Rattle.std.specs.List.{AllByRecursion, find}
 use Rattle.std.proofs.lemmas.Bool.Decides.{nat_tests}
 use Rattle.lib_base.specs.declared.files.Summary.{Summary}
+use Rattle.lib_base.specs.declared.limits.TheConstants.{NUMBERS_END, MOST_MEMBERS}
 use Rattle.file_model.specs.Pcm.{Pcm}
 use Rattle.keeper_store.specs.Changes.{changed}
 use Rattle.keeper_store.specs.Puts.{put, album_id, album_less, recording_id, recording_less}
@@ -11,7 +12,6 @@ use Rattle.keeper_store.specs.declared.row_types.AlbumRow.{AlbumRow}
 use Rattle.keeper_store.specs.declared.row_types.RecordingRow.{RecordingRow}
 use Rattle.keeper_store.proofs.Dropping.{AllByRecursion-without, map-without}
 use Rattle.keeper_store.proofs.Putting.{AllByRecursion-put, AllByRecursion-weaken, map-put}
-use Rattle.library_model.specs.declared.limits.TheConstants.{MOST_MEMBERS}
 use Rattle.library_model.specs.declared.messages.Command.{Command}
 use Rattle.library_model.specs.declared.messages.Command.TheVariants.{NewAlbum, Import, Retake, Regroup, RemoveRecording, RemoveAlbum}
 use Rattle.library_model.specs.InOrder.{AreInOrder, Differ, IsGiven}
@@ -19,7 +19,7 @@ use Rattle.library_model.specs.Machine.{imported, is_crowded, is_there, new_albu
 use Rattle.library_model.specs.Names.{is_name}
 use Rattle.library_model.specs.RowRules.{album_is_there, is_in_album, member_count}
 use Rattle.library_model.specs.Stands.{BringsWithin, IsFound, IsValid, album_row, members, recording_row, tables_of}
-use Rattle.library_model.specs.State.{Album, Recording, State, album_before, numbers_end, recording_before}
+use Rattle.library_model.specs.State.{Album, Recording, State, album_before, recording_before}
 use Rattle.library_model.proofs.Counting.{at_there, count-cons, count_same, weight}
 use Rattle.library_model.proofs.Dropped.{AreInOrder-drop_album, AreInOrder-drop_recording}
 use Rattle.library_model.proofs.Imports.{AllByRecursion-both, AllByRecursion-weaker, given_of}
@@ -31,11 +31,11 @@ use Rattle.library_model.proofs.ValidRows.{takes_of_rows}
 -- ---- counters
 
 -- a number that is left is not the end
-pub left_below : (next : ℕ) → nat_le numbers_end next ≡ false → next < numbers_end
+pub left_below : (next : ℕ) → nat_le NUMBERS_END next ≡ false → next < NUMBERS_END
 left_below next left = grind (arith, nat_tests)
 
 -- of two, both are left where none is lacking
-pub both_below : (a b : ℕ) → (nat_le numbers_end a || nat_le numbers_end b) ≡ false → (a < numbers_end) × (b < numbers_end)
+pub both_below : (a b : ℕ) → (nat_le NUMBERS_END a || nat_le NUMBERS_END b) ≡ false → (a < NUMBERS_END) × (b < NUMBERS_END)
 both_below a b left = (grind (arith, nat_tests), grind (arith, nat_tests))
 
 -- ---- a new album
@@ -72,7 +72,7 @@ tables_of-new_album s name =
     ap (λ (rows : List AlbumRow). record (changed (Counters (s.next_album + 1) s.next_recording s.next_take) (tables_of s)) { albums = rows })
     (map-put album_before album_less album_row (λ a b. refl) (new_album s name) s.albums)
 
-new_album_in_order : (s : State) (name : List ℕ) → IsValid s → is_name name ≡ true → nat_le numbers_end s.next_album ≡ false
+new_album_in_order : (s : State) (name : List ℕ) → IsValid s → is_name name ≡ true → nat_le NUMBERS_END s.next_album ≡ false
     → AreInOrder (tables_of (with_new_album s name))
 new_album_in_order s name valid is left =
     let below = left_below s.next_album left in
@@ -96,7 +96,7 @@ next_take_differs s id valid =
 
 import_in_order : (s : State) (album : Option ℕ) (name file : List ℕ) (sound : Pcm) (summary : Summary) → IsValid s → is_name name ≡ true
     → is_there album s.albums ≡ true → is_crowded album (imported s album name file sound summary).recordings ≡ false
-    → (nat_le numbers_end s.next_recording || nat_le numbers_end s.next_take) ≡ false
+    → (nat_le NUMBERS_END s.next_recording || nat_le NUMBERS_END s.next_take) ≡ false
     → AreInOrder (tables_of (imported s album name file sound summary))
 import_in_order s album name file sound summary valid is there room left =
     let below = both_below s.next_recording s.next_take left in
@@ -151,7 +151,7 @@ row_found id (q ∷ rs) r is = cases (q.id == id) (row_found id rs r) is
     cases false rest is = rest is
 
 retake_in_order : (s : State) (id : ℕ) (r : Recording) (file : List ℕ) (sound : Pcm) (summary : Summary) → IsValid s
-    → recording_of id s.recordings ≡ Some r → nat_le numbers_end s.next_take ≡ false → AreInOrder (tables_of (retaking s r file sound summary))
+    → recording_of id s.recordings ≡ Some r → nat_le NUMBERS_END s.next_take ≡ false → AreInOrder (tables_of (retaking s r file sound summary))
 retake_in_order s id r file sound summary valid found left =
     let below = left_below s.next_take left in
     let low = valid.rows.next_take.0 in

@@ -4,6 +4,7 @@ use Rattle.std.specs.Prelude.{count_by}
 use Rattle.std.specs.List.{AllByRecursion}
 use Rattle.std.proofs.lemmas.Bool.Decides.{nat_tests}
 use Rattle.std.proofs.lemmas.List.Sums.{length-filter, sum_by-cons}
+use Rattle.lib_base.specs.declared.limits.TheConstants.{MOST_MEMBERS}
 use Rattle.keeper_store.specs.Changes.{changed}
 use Rattle.keeper_store.specs.Orders.{segments_in_order}
 use Rattle.keeper_store.specs.Puts.{Ascends, put, recording_less, segments_less}
@@ -13,7 +14,6 @@ use Rattle.keeper_store.specs.declared.row_types.AlbumRow.{AlbumRow}
 use Rattle.keeper_store.specs.declared.row_types.RecordingRow.{RecordingRow}
 use Rattle.keeper_store.specs.declared.row_types.SegmentRow.{SegmentRow}
 use Rattle.keeper_store.proofs.Putting.{AllByRecursion-weaken, Ascends-put, map-put}
-use Rattle.library_model.specs.declared.limits.TheConstants.{MOST_MEMBERS}
 use Rattle.library_model.specs.InOrder.{AreInOrder, Differ, IsCounter, IsGiven}
 use Rattle.library_model.specs.Machine.{is_crowded, is_there, recording_of}
 use Rattle.library_model.specs.Names.{is_name}

@@ -3,6 +3,7 @@ use Rattle.std.proofs.Common.{◌≡◌, ◌==◌, ◌||◌, ◌∙◌, ℕ, Boo
 use Rattle.std.specs.List.{find}
 use Rattle.lib_base.specs.declared.files.Summary.{Summary}
 use Rattle.lib_base.specs.declared.outcomes.Rule.{Rule}
+use Rattle.lib_base.specs.declared.limits.TheConstants.{NUMBERS_END}
 use Rattle.file_model.specs.Pcm.{Pcm}
 use Rattle.keeper_store.specs.declared.row_types.RecordingRow.{RecordingRow}
 use Rattle.library_model.specs.declared.messages.Command.{Command}
@@ -18,7 +19,7 @@ use Rattle.library_model.specs.Bodies.{removed_reply}
 use Rattle.library_model.specs.Replies.{format_refusal, refusal}
 use Rattle.library_model.specs.RowRules.{album_is_there, has_album, member_count}
 use Rattle.library_model.specs.Stands.{IsValid, members, tables_of}
-use Rattle.library_model.specs.State.{Kept, Recording, State, numbers_end}
+use Rattle.library_model.specs.State.{Kept, Recording, State}
 use Rattle.library_model.proofs.Fitting.{import_crowds, regroup_crowds}
 use Rattle.library_model.proofs.Looking.{recording_missing, recording_there}
 use Rattle.library_model.proofs.MadeStates.{row-there}
@@ -134,12 +135,14 @@ pub import_full : (s : State) (token mark : List ℕ) (album : Option ℕ) (name
 import_full s token mark album name file sound summary valid fresh there finds full =
     let next : State = imported s album name file sound summary in
     let step : Step = makes (λ _. recording_reply 201 (new_recording s album name file sound summary)) next in
-    let lacks : Bool = nat_le numbers_end s.next_recording || nat_le numbers_end s.next_take in
+    let lacks : Bool = nat_le NUMBERS_END s.next_recording || nat_le NUMBERS_END s.next_take in
     refused_exit s token mark (Import album name file) (refusal AlbumFull) fresh
     (of_there (is_there album s.albums) (OfFile file (import_step s album name file)) (stays (refusal AlbumFull))
-    (sym (row-there album s.albums) ∙ there)
-    (measured sound summary, finds,
-    of_passed (is_crowded album next.recordings) AlbumFull (unless lacks Ids step) (import_crowds s album name file sound summary valid ∙ full)))
+    (sym (row-there album s.albums) ∙ there) (
+      measured sound summary,
+      finds,
+      of_passed (is_crowded album next.recordings) AlbumFull (unless lacks Ids step) (import_crowds s album name file sound summary valid ∙ full),
+    ))
 
 pub regroup_full : (s : State) (token mark : List ℕ) (id : ℕ) (album : Option ℕ) (old : RecordingRow) → IsValid s
     → kept_under token s.replies ≡ None → find (λ (row : RecordingRow). row.id == id) (tables_of s).recordings ≡ Some old
@@ -158,40 +161,44 @@ regroup_full s token mark id album old valid fresh found there full =
 
 -- ---- numbers that are lacking
 
-pub new_album_ids : (s : State) (token mark name : List ℕ) → kept_under token s.replies ≡ None → nat_le numbers_end s.next_album ≡ true
+pub new_album_ids : (s : State) (token mark name : List ℕ) → kept_under token s.replies ≡ None → nat_le NUMBERS_END s.next_album ≡ true
     → Decides s (change token mark (command (NewAlbum name))) (stays (refusal Ids))
 new_album_ids s token mark name fresh lacks =
     refused_exit s token mark (NewAlbum name) (refusal Ids) fresh
-    (of_passed (nat_le numbers_end s.next_album) Ids (makes (λ _. album_reply 201 (new_album s name) []) (with_new_album s name)) lacks)
+    (of_passed (nat_le NUMBERS_END s.next_album) Ids (makes (λ _. album_reply 201 (new_album s name) []) (with_new_album s name)) lacks)
 
 pub import_ids : (s : State) (token mark : List ℕ) (album : Option ℕ) (name file : List ℕ) (sound : Pcm) (summary : Summary) → IsValid s
     → kept_under token s.replies ≡ None → album_is_there album (tables_of s).albums ≡ true → Finds file (measured sound summary)
     → crowds None album (tables_of s).recordings ≡ false
-    → (nat_le numbers_end s.next_recording || nat_le numbers_end s.next_take) ≡ true
+    → (nat_le NUMBERS_END s.next_recording || nat_le NUMBERS_END s.next_take) ≡ true
     → Decides s (change token mark (command (Import album name file))) (stays (refusal Ids))
 import_ids s token mark album name file sound summary valid fresh there finds room lack =
     let next : State = imported s album name file sound summary in
     let step : Step = makes (λ _. recording_reply 201 (new_recording s album name file sound summary)) next in
-    let lacks : Bool = nat_le numbers_end s.next_recording || nat_le numbers_end s.next_take in
+    let lacks : Bool = nat_le NUMBERS_END s.next_recording || nat_le NUMBERS_END s.next_take in
     refused_exit s token mark (Import album name file) (refusal Ids) fresh
     (of_there (is_there album s.albums) (OfFile file (import_step s album name file)) (stays (refusal Ids))
-    (sym (row-there album s.albums) ∙ there)
-    (measured sound summary, finds,
-    of_limit (is_crowded album next.recordings) AlbumFull (unless lacks Ids step) (stays (refusal Ids))
-    (import_crowds s album name file sound summary valid ∙ room) (of_passed lacks Ids step lack)))
+    (sym (row-there album s.albums) ∙ there) (
+      measured sound summary,
+      finds,
+      of_limit (is_crowded album next.recordings) AlbumFull (unless lacks Ids step) (stays (refusal Ids))
+          (import_crowds s album name file sound summary valid ∙ room) (of_passed lacks Ids step lack),
+    ))
 
 pub retake_ids : (s : State) (token mark : List ℕ) (id : ℕ) (old : RecordingRow) (file : List ℕ) (sound : Pcm) (summary : Summary)
     → kept_under token s.replies ≡ None → find (λ (row : RecordingRow). row.id == id) (tables_of s).recordings ≡ Some old
-    → Finds file (measured sound summary) → nat_le numbers_end s.next_take ≡ true
+    → Finds file (measured sound summary) → nat_le NUMBERS_END s.next_take ≡ true
     → Decides s (change token mark (command (Retake id file))) (stays (refusal Ids))
 retake_ids s token mark id old file sound summary fresh found finds lacks =
     let at = recording_there s id old found in
     let r : Recording = at.0 in
     refused_exit s token mark (Retake id file) (refusal Ids) fresh
-    (of_found (recording_of id s.recordings) r (λ r. OfFile file (retake_step s r file)) (stays (refusal Ids)) at.1
-    (measured sound summary, finds,
-    of_passed (nat_le numbers_end s.next_take) Ids
-    (makes (λ _. recording_reply 200 (retaken s r file sound summary)) (retaking s r file sound summary)) lacks))
+    (of_found (recording_of id s.recordings) r (λ r. OfFile file (retake_step s r file)) (stays (refusal Ids)) at.1 (
+      measured sound summary,
+      finds,
+      of_passed (nat_le NUMBERS_END s.next_take) Ids
+          (makes (λ _. recording_reply 200 (retaken s r file sound summary)) (retaking s r file sound summary)) lacks,
+    ))
 
 -- ---- an album that has recordings
 

@@ -4,6 +4,7 @@ use Rattle.std.specs.List.{AllByRecursion, find}
 use Rattle.std.proofs.lemmas.Bool.Decides.{nat_tests}
 use Rattle.lib_base.specs.declared.files.Measured.{Measured}
 use Rattle.lib_base.specs.declared.files.Summary.{Summary}
+use Rattle.lib_base.specs.declared.limits.TheConstants.{MOST_MEMBERS}
 use Rattle.keeper_store.specs.Changes.{changed, next_numbers}
 use Rattle.keeper_store.specs.EnergyBytes.{energies_in}
 use Rattle.keeper_store.specs.Puts.{Ascends, put, without, recording_id, recording_less, segments_less, segments_take}
@@ -14,7 +15,6 @@ use Rattle.keeper_store.specs.declared.row_types.RecordingRow.{RecordingRow}
 use Rattle.keeper_store.specs.declared.row_types.SegmentRow.{SegmentRow}
 use Rattle.keeper_store.proofs.EnergyRows.{energies_in-row_bytes}
 use Rattle.sound_model.specs.Summaries.{IsWithinBounds}
-use Rattle.library_model.specs.declared.limits.TheConstants.{MOST_MEMBERS}
 use Rattle.library_model.specs.Batches.{crowds, import_row, regroup_row, retake_row}
 use Rattle.library_model.specs.InOrder.{Differ, IsGiven}
 use Rattle.library_model.specs.Machine.{recording_of}
@@ -265,7 +265,7 @@ pub retake_frees : (s : State) (id : ℕ) (old : RecordingRow) (file : List ℕ)
 retake_frees s id old file m summary valid found =
     let at = recording_there s id old found in
     let Of : RecordingRow → Type 0 = λ q.
-        Unnamed q.take (put recording_less (retake_row (next_numbers (tables_of s)) q file m summary) (tables_of s).recordings) in
+    Unnamed q.take (put recording_less (retake_row (next_numbers (tables_of s)) q file m summary) (tables_of s).recordings) in
     subst Of at.2
     (frees_put s id at.0 (retake_row (next_numbers (tables_of s)) (recording_row at.0) file m summary) valid at.1 refl
     (next_differs s id at.0 valid at.1))

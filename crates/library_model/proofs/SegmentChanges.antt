@@ -36,8 +36,11 @@ first_same x y xs ys rise climb same = by_test (nat_lt x.take y.take) (nat_lt y.
     past : (m n : SegmentRow) (rows : List SegmentRow) → nat_lt m.take n.take ≡ true → Ascends segments_less (n ∷ rows)
         → of_take m.take (n ∷ rows) ≡ None
     past m n rows below rise =
-        found_below m.take (n ∷ rows) (below, AllByRecursion-weaker (λ (s : SegmentRow). nat_lt n.take s.take ≡ true)
-        (λ (s : SegmentRow). nat_lt m.take s.take ≡ true) rows (λ s after. grind (arith, nat_tests, below)) rise.0)
+        found_below m.take (n ∷ rows) (
+          below,
+          AllByRecursion-weaker (λ (s : SegmentRow). nat_lt n.take s.take ≡ true)
+              (λ (s : SegmentRow). nat_lt m.take s.take ≡ true) rows (λ s after. grind (arith, nat_tests, below)) rise.0,
+        )
 
     by_test : (first second : Bool) → nat_lt x.take y.take ≡ first → nat_lt y.take x.take ≡ second → x ≡ y
     by_test true second below above =

@@ -3,6 +3,7 @@ use Rattle.std.proofs.Common.{◌≡◌, ◌<◌, inl, inr, ◌||◌, ℕ, Bool,
 use Rattle.std.specs.List.{AllByRecursion}
 use Rattle.std.specs.Cmp.Lexicographic.{pointwise}
 use Rattle.std.specs.Prelude.{nat_eq, ⊤}
+use Rattle.lib_base.specs.declared.limits.TheConstants.{NUMBERS_END}
 use Rattle.keeper_store.specs.declared.row_types.ReplyRow.{ReplyRow}
 use Rattle.library_model.specs.declared.messages.Command.{Command}
 use Rattle.library_model.specs.declared.messages.Command.TheVariants.{NewAlbum, Import, Retake, Regroup, RemoveRecording, RemoveAlbum}
@@ -17,7 +18,7 @@ use Rattle.library_model.specs.Machine.{Decides, DecidesChange, DecidesCommand, 
 use Rattle.library_model.specs.Refusals.{status_of}
 use Rattle.library_model.specs.Replies.{json, refusal}
 use Rattle.library_model.specs.Stands.{IsValid, members, reply_row}
-use Rattle.library_model.specs.State.{Album, Kept, Recording, State, numbers_end}
+use Rattle.library_model.specs.State.{Album, Kept, Recording, State}
 use Rattle.library_model.proofs.InOrderLemmas.{AllByRecursion-unmap}
 
 -- the status is none of a fault
@@ -64,17 +65,17 @@ import_below : (s : State) (album : Option ℕ) (name file : List ℕ) (finding 
 import_below s album name file (broken_by rule place) = omega arith
 import_below s album name file (measured sound summary) =
     unless_below (is_crowded album (imported s album name file sound summary).recordings) AlbumFull _ (omega arith)
-    (unless_below (nat_le numbers_end s.next_recording || nat_le numbers_end s.next_take) Ids _ (omega arith) (λ after. omega arith))
+    (unless_below (nat_le NUMBERS_END s.next_recording || nat_le NUMBERS_END s.next_take) Ids _ (omega arith) (λ after. omega arith))
 
 retake_below : (s : State) (r : Recording) (file : List ℕ) (finding : Finding) → RepliesBelow (retake_step s r file finding)
 retake_below s r file (broken_by rule place) = omega arith
 retake_below s r file (measured sound summary) =
-    unless_below (nat_le numbers_end s.next_take) Ids _ (omega arith) (λ after. omega arith)
+    unless_below (nat_le NUMBERS_END s.next_take) Ids _ (omega arith) (λ after. omega arith)
 
 -- A command is replied to with no such status.
 command_below : (s : State) (wanted : Command) (verdict : Verdict) → DecidesCommand s wanted verdict → IsBelow (verdict_reply verdict).status
 command_below s (NewAlbum name) verdict decides =
-    sums_below (new_album_step s name) verdict (unless_below (nat_le numbers_end s.next_album) Ids _ (omega arith) (λ after. omega arith)) decides
+    sums_below (new_album_step s name) verdict (unless_below (nat_le NUMBERS_END s.next_album) Ids _ (omega arith) (λ after. omega arith)) decides
 command_below s (Import album name file) verdict decides =
     of_album_below (is_there album s.albums) (OfFile file (import_step s album name file)) verdict
     (λ found. sums_below (import_step s album name file found.0) verdict (import_below s album name file found.0) found.2) decides
@@ -105,6 +106,7 @@ kept_below token (k ∷ replies) kept all is = by_token (pointwise nat_eq k.toke
     by_status : IsKeptStatus k.status → IsBelow k.status
     by_status (inl is) = omega (arith, is)
     by_status (inr is) = omega (arith, is)
+
     by_token : (same : Bool) → (if same then Some k else kept_under token replies) ≡ Some kept
         → (kept_under token replies ≡ Some kept → IsBelow kept.status) → IsBelow kept.status
     by_token true is rest =
@@ -150,8 +152,10 @@ Decides-IsBelow s (change token mark wanted) verdict valid below decides = by_ke
   where
     statuses : AllByRecursion (λ (k : Kept). IsKeptStatus k.status) s.replies
     statuses = AllByRecursion-unmap (λ (row : ReplyRow). IsKeptStatus row.status) reply_row s.replies valid.rows.statuses
+
     Below : Verdict → Type 0
     Below v = IsBelow (verdict_reply v).status
+
     by_kept : (wanted : Wanted) (kept : Option Kept) → kept_under token s.replies ≡ kept → RefusesBelow (change token mark wanted)
         → DecidesChange s token mark wanted kept verdict → IsBelow (verdict_reply verdict).status
     by_kept wanted (Some kept) is below decides =

@@ -1,6 +1,7 @@
 -- What an accepted command makes.
 use Rattle.std.proofs.Common.{◌≡◌, ◌||◌, ℕ, Bool, true, false, nat_le, nat_lt, Option, None, Some, List, [], length, inl, inr, refl, ap, ◌∙◌, subst}
 use Rattle.lib_base.specs.declared.files.Summary.{Summary}
+use Rattle.lib_base.specs.declared.limits.TheConstants.{NUMBERS_END}
 use Rattle.file_model.specs.Pcm.{Pcm}
 use Rattle.library_model.specs.declared.messages.Command.{Command}
 use Rattle.library_model.specs.declared.messages.Command.TheVariants.{NewAlbum, Import, Retake, Regroup, RemoveRecording, RemoveAlbum}
@@ -12,19 +13,19 @@ use Rattle.library_model.specs.Findings.{Finding, Finds, broken_by, measured}
 use Rattle.library_model.specs.InOrder.{IsKeptStatus}
 use Rattle.library_model.specs.Machine.{DecidesCommand, OfAlbum, OfFile, OfRecording, Step, Sums, Verdict, accepts, album_reply, import_step, imported, is_crowded, is_there, makes, new_album, new_recording, recording_of, recording_reply, regroup_step, regrouped, regrouping, remove_step, removing, removing_album, retake_step, retaken, retaking, state_after, unless, with_new_album}
 use Rattle.library_model.specs.Stands.{Resums, members}
-use Rattle.library_model.specs.State.{Album, Recording, State, numbers_end}
+use Rattle.library_model.specs.State.{Album, Recording, State}
 
 -- a command makes a state, before its albums are summed: what it names is there, its file is measured, and no limit is passed
 abbrev pub MakesState : State → Command → State → Type 0
-MakesState s (NewAlbum name) next = (nat_le numbers_end s.next_album ≡ false) × (next ≡ with_new_album s name)
+MakesState s (NewAlbum name) next = (nat_le NUMBERS_END s.next_album ≡ false) × (next ≡ with_new_album s name)
 MakesState s (Import album name file) next =
     (sound : Pcm) × (summary : Summary) × (is_there album s.albums ≡ true) × Finds file (measured sound summary)
     × (is_crowded album (imported s album name file sound summary).recordings ≡ false)
-    × ((nat_le numbers_end s.next_recording || nat_le numbers_end s.next_take) ≡ false)
+    × ((nat_le NUMBERS_END s.next_recording || nat_le NUMBERS_END s.next_take) ≡ false)
     × (next ≡ imported s album name file sound summary)
 MakesState s (Retake id file) next =
     (sound : Pcm) × (summary : Summary) × (r : Recording) × (recording_of id s.recordings ≡ Some r) × Finds file (measured sound summary)
-    × (nat_le numbers_end s.next_take ≡ false) × (next ≡ retaking s r file sound summary)
+    × (nat_le NUMBERS_END s.next_take ≡ false) × (next ≡ retaking s r file sound summary)
 MakesState s (Regroup id album) next =
     (r : Recording) × (recording_of id s.recordings ≡ Some r) × (is_there album s.albums ≡ true)
     × (is_crowded album (regrouping s r album).recordings ≡ false) × (next ≡ regrouping s r album)
@@ -87,7 +88,7 @@ retake_made s id file reply after decides =
     by_finding r there (measured sound summary) finds sums =
         let said = recording_reply 200 (retaken s r file sound summary) in
         let next = retaking s r file sound summary in
-        let left = of_limit (nat_le numbers_end s.next_take) Ids (makes (λ _. said) next) reply after sums in
+        let left = of_limit (nat_le NUMBERS_END s.next_take) Ids (makes (λ _. said) next) reply after sums in
         made s (Retake id file) said next reply after (sound, summary, r, there, finds, left.0, refl) (inl refl) left.1
 
 -- and of a recording that comes into another album
@@ -109,7 +110,7 @@ pub accepted_made : (s : State) (wanted : Command) (reply : Reply) (after : Stat
 accepted_made s (NewAlbum name) reply after decides =
     let said = album_reply 201 (new_album s name) [] in
     let next = with_new_album s name in
-    let left = of_limit (nat_le numbers_end s.next_album) Ids (makes (λ _. said) next) reply after decides in
+    let left = of_limit (nat_le NUMBERS_END s.next_album) Ids (makes (λ _. said) next) reply after decides in
     made s (NewAlbum name) said next reply after (left.0, refl) (inr refl) left.1
 accepted_made s (Import album name file) reply after decides =
     let there = of_album (is_there album s.albums) (OfFile file (import_step s album name file)) reply after decides in
@@ -121,7 +122,7 @@ accepted_made s (Import album name file) reply after decides =
     by_finding there (measured sound summary) finds sums =
         let said = recording_reply 201 (new_recording s album name file sound summary) in
         let next = imported s album name file sound summary in
-        let lacks = nat_le numbers_end s.next_recording || nat_le numbers_end s.next_take in
+        let lacks = nat_le NUMBERS_END s.next_recording || nat_le NUMBERS_END s.next_take in
         let room = of_limit (is_crowded album next.recordings) AlbumFull (unless lacks Ids (makes (λ _. said) next)) reply after sums in
         let left = of_limit lacks Ids (makes (λ _. said) next) reply after room.1 in
         made s (Import album name file) said next reply after (sound, summary, there, finds, room.0, left.0, refl) (inr refl) left.1

@@ -159,6 +159,7 @@ Answer-StepsTakes s asked reply next answer = by_way answer.way answer.answers
   where
     stayed : next ≡ s → StepsTakes s next
     stayed is = subst (StepsTakes s) (sym is) (steps_same s)
+
     by_way : (way : Way) → AnswersBy way s asked reply next → StepsTakes s next
     by_way (as_decided verdict) answers = subst (StepsTakes s) (sym answers.2) (decided_steps s asked verdict answers.0)
     by_way without_memory answers = stayed answers.1

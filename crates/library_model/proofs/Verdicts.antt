@@ -1,6 +1,7 @@
 -- There is one verdict, and an import within the limits is granted.
 use Rattle.std.proofs.Common.{◌≡◌, ◌||◌, ℕ, Bool, true, false, Option, None, Some, nat_le, List, sym, ap, ◌∙◌, subst}
 use Rattle.lib_base.specs.declared.files.Summary.{Summary}
+use Rattle.lib_base.specs.declared.limits.TheConstants.{NUMBERS_END}
 use Rattle.file_model.specs.Pcm.{Pcm}
 use Rattle.library_model.specs.declared.messages.Command.{Command}
 use Rattle.library_model.specs.declared.messages.Command.TheVariants.{NewAlbum, Import, Retake, Regroup, RemoveRecording, RemoveAlbum}
@@ -9,7 +10,7 @@ use Rattle.library_model.specs.declared.refusals.Refusal.TheVariants.{AlbumFull,
 use Rattle.library_model.specs.Asked.{Asked, Wanted, change, command, malformed, question, refused}
 use Rattle.library_model.specs.Findings.{Finding, Finds, measured}
 use Rattle.library_model.specs.Machine.{Decides, DecidesChange, DecidesCommand, OfAlbum, OfFile, OfRecording, Step, Sums, Verdict, accepts, import_step, imported, is_crowded, is_there, keeping, kept_under, makes, new_album_step, new_recording, recording_of, recording_reply, refuses, regroup_step, remove_album_step, remove_step, retake_step, retaken, retaking, unless, verdict_reply, with_albums}
-use Rattle.library_model.specs.State.{Album, Kept, Recording, State, numbers_end}
+use Rattle.library_model.specs.State.{Album, Kept, Recording, State}
 use Rattle.library_model.proofs.Measuring.{Finds_unique}
 use Rattle.library_model.proofs.Resumming.{Resums-unique}
 
@@ -81,7 +82,7 @@ passed test cause step verdict is sums = subst (λ (b : Bool). Sums (unless b ca
 pub import_granted : (s : State) (token mark : List ℕ) (album : Option ℕ) (name file : List ℕ) (sound : Pcm) (summary : Summary)
     (verdict : Verdict) → kept_under token s.replies ≡ None → is_there album s.albums ≡ true → Finds file (measured sound summary)
     → is_crowded album (imported s album name file sound summary).recordings ≡ false
-    → (nat_le numbers_end s.next_recording || nat_le numbers_end s.next_take) ≡ false
+    → (nat_le NUMBERS_END s.next_recording || nat_le NUMBERS_END s.next_take) ≡ false
     → Decides s (change token mark (command (Import album name file))) verdict → (verdict_reply verdict).status ≡ 201
 import_granted s token mark album name file sound summary verdict fresh there finds room left decides =
     let Of : Option Kept → Type 0 = λ kept. DecidesChange s token mark (command (Import album name file)) kept verdict in
@@ -94,7 +95,7 @@ import_granted s token mark album name file sound summary verdict fresh there fi
     let sums : OfFinding (measured sound summary) = subst OfFinding same by.2 in
     let next : State = imported s album name file sound summary in
     let step : Step = makes (λ _. recording_reply 201 (new_recording s album name file sound summary)) next in
-    let lacks : Bool = nat_le numbers_end s.next_recording || nat_le numbers_end s.next_take in
+    let lacks : Bool = nat_le NUMBERS_END s.next_recording || nat_le NUMBERS_END s.next_take in
     let made : Sums step decided =
     passed lacks Ids step decided left (passed (is_crowded album next.recordings) AlbumFull (unless lacks Ids step) decided room sums) in
     ap (λ (v : Verdict). (verdict_reply v).status) of_fresh.2

@@ -4,6 +4,7 @@ use Rattle.std.specs.List.{find}
 use Rattle.md5.specs.Md5.{md5}
 use Rattle.lib_base.specs.declared.files.Measured.{Measured}
 use Rattle.lib_base.specs.declared.files.Summary.{Summary}
+use Rattle.lib_base.specs.declared.limits.TheConstants.{MOST_MEMBERS}
 use Rattle.keeper_store.specs.declared.contents.Change.{Change}
 use Rattle.keeper_store.specs.declared.contents.Change.TheVariants.{Counters, PutAlbum, PutRecording, PutSegments, PutReply, DropAlbum, DropRecording, DropSegments}
 use Rattle.keeper_store.specs.declared.contents.NextNumbers.{NextNumbers}
@@ -11,7 +12,6 @@ use Rattle.keeper_store.specs.declared.contents.Tables.{Tables}
 use Rattle.keeper_store.specs.declared.row_types.AlbumRow.{AlbumRow}
 use Rattle.keeper_store.specs.declared.row_types.RecordingRow.{RecordingRow}
 use Rattle.keeper_store.specs.declared.row_types.ReplyRow.{ReplyRow}
-use Rattle.library_model.specs.declared.limits.TheConstants.{MOST_MEMBERS}
 use Rattle.library_model.specs.declared.messages.Reply.{Reply}
 use Rattle.library_model.specs.Findings.{kind_of}
 use Rattle.library_model.specs.Machine.{no_levels}

@@ -3,6 +3,7 @@ use Rattle.std.specs.Prelude.{◌≡◌, ◌+◌, ◌||◌, ◌==◌, not, ℕ, 
 use Rattle.std.specs.Cmp.Lexicographic.{pointwise}
 use Rattle.std.specs.List.{find, list_any}
 use Rattle.lib_base.specs.declared.files.Summary.{Summary}
+use Rattle.lib_base.specs.declared.limits.TheConstants.{NUMBERS_END, MOST_MEMBERS}
 use Rattle.file_model.specs.Pcm.{Pcm}
 use Rattle.keeper_store.specs.Puts.{put, without}
 use Rattle.library_model.specs.declared.messages.Command.{Command}
@@ -12,13 +13,12 @@ use Rattle.library_model.specs.declared.messages.Question.TheVariants as about
 use Rattle.library_model.specs.declared.messages.Reply.{Reply}
 use Rattle.library_model.specs.declared.refusals.Refusal.{Refusal}
 use Rattle.library_model.specs.declared.refusals.Refusal.TheVariants.{NoRecording, NoAlbum, NotEmpty, AlbumFull, TokenUsed, Ids, Vault, Keeper, Memory}
-use Rattle.library_model.specs.declared.limits.TheConstants.{MOST_MEMBERS}
 use Rattle.library_model.specs.Asked.{Asked, Wanted, asks_vault, change, command, malformed, question, refused}
 use Rattle.library_model.specs.Bodies.{album_row_reply, removed_reply, row_reply}
 use Rattle.library_model.specs.Findings.{Finding, Finds, measured, broken_by}
 use Rattle.library_model.specs.Replies.{format_refusal, json, refusal}
 use Rattle.library_model.specs.Stands.{Resums, album_row, members, recording_row}
-use Rattle.library_model.specs.State.{Album, Kept, Recording, State, album_before, kept_before, numbers_end, recording_before}
+use Rattle.library_model.specs.State.{Album, Kept, Recording, State, album_before, kept_before, recording_before}
 
 -- a request is answered and the state stays, or it is newly accepted with a reply and the state that it leads to
 pub data Verdict : Type 0 where
@@ -109,7 +109,7 @@ with_new_album s name = record s {
 -- A new album, for which a number is left, has no recording.
 abbrev pub new_album_step : State → List ℕ → Step
 new_album_step s name =
-    unless (nat_le numbers_end s.next_album) Ids (makes (λ _. album_reply 201 (new_album s name) []) (with_new_album s name))
+    unless (nat_le NUMBERS_END s.next_album) Ids (makes (λ _. album_reply 201 (new_album s name) []) (with_new_album s name))
 
 -- the recording that an import makes, under the next numbers
 abbrev pub new_recording : State → Option ℕ → List ℕ → List ℕ → Pcm → Summary → Recording
@@ -137,7 +137,7 @@ abbrev pub import_step : State → Option ℕ → List ℕ → List ℕ → Find
 import_step s album name file (broken_by rule place) = refuses (format_refusal rule place)
 import_step s album name file (measured sound summary) =
     unless (is_crowded album (imported s album name file sound summary).recordings) AlbumFull
-    (unless (nat_le numbers_end s.next_recording || nat_le numbers_end s.next_take) Ids
+    (unless (nat_le NUMBERS_END s.next_recording || nat_le NUMBERS_END s.next_take) Ids
     (makes (λ _. recording_reply 201 (new_recording s album name file sound summary)) (imported s album name file sound summary)))
 
 -- a recording with another file, under the next take
@@ -155,7 +155,7 @@ retaking s r file sound summary = record s {
 abbrev pub retake_step : State → Recording → List ℕ → Finding → Step
 retake_step s r file (broken_by rule place) = refuses (format_refusal rule place)
 retake_step s r file (measured sound summary) =
-    unless (nat_le numbers_end s.next_take) Ids
+    unless (nat_le NUMBERS_END s.next_take) Ids
     (makes (λ _. recording_reply 200 (retaken s r file sound summary)) (retaking s r file sound summary))
 
 -- a recording in another album, or in none

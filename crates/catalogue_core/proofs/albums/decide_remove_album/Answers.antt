@@ -32,6 +32,6 @@ returns-clause-leaves c = record {
   numbers = c.reserve.ensures.numbers;
   released = refl;
   room = remove_album_room c.reserve.new.self c.args.id _ c.in_ok-plan_remove_album.field-0 c.in_ok-reserve.ensures.room
-  c.in_ok-plan_remove_album.ensures.plan;
+      c.in_ok-plan_remove_album.ensures.plan;
   own = tt;
 }

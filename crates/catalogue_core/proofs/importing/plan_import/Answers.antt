@@ -36,8 +36,8 @@ returns-clause-decides g c = λ s token mark holds open_ home take few.
     (row_reply 201 (import_row (next_numbers t) a.album a.name.now a.file.now m a.tally.summary)) c.plan_of-plan.result =
     record {
       changes_are = c.plan_of-plan.ensures.changes ∙ c.in_ok-changes.ensures
-      ∙ ap (λ (n : NextNumbers). import_changes n m c.in_ok-row.row ++ map PutAlbum (in_list c.in_ok-resummed.resummed)) same
-      ∙ ap (λ (row : RecordingRow). import_changes (next_numbers t) m row ++ map PutAlbum (in_list c.in_ok-resummed.resummed)) row_is;
+          ∙ ap (λ (n : NextNumbers). import_changes n m c.in_ok-row.row ++ map PutAlbum (in_list c.in_ok-resummed.resummed)) same
+          ∙ ap (λ (row : RecordingRow). import_changes (next_numbers t) m row ++ map PutAlbum (in_list c.in_ok-resummed.resummed)) row_is;
       released_is = c.plan_of-plan.ensures.released;
       reply_is = c.plan_of-plan.ensures.reply ∙ c.in_ok-reply.ensures ∙ ap (row_reply 201) row_is;
     } in
@@ -56,11 +56,11 @@ returns-clause-leaves g c =
       numbers = kept.numbers;
       released = kept.released;
       room = import_room c.resum_with.new.library.rows c.next_numbers-next.result c.args.measured.now c.in_ok-row.row c.in_ok-resummed.resummed
-      c.in_ok-reply.reply plan (kept.room.room 6 c.requires.room) place (ap (λ (f : Fresh). f.album) c.plan_of-plan.ensures.fresh)
-      (record {
-        changes_are = c.plan_of-plan.ensures.changes ∙ c.in_ok-changes.ensures;
-        released_is = c.plan_of-plan.ensures.released;
-        reply_is = c.plan_of-plan.ensures.reply;
-      });
+          c.in_ok-reply.reply plan (kept.room.room 6 c.requires.room) place (ap (λ (f : Fresh). f.album) c.plan_of-plan.ensures.fresh)
+          (record {
+            changes_are = c.plan_of-plan.ensures.changes ∙ c.in_ok-changes.ensures;
+            released_is = c.plan_of-plan.ensures.released;
+            reply_is = c.plan_of-plan.ensures.reply;
+          });
       own = tt;
     }

@@ -41,11 +41,11 @@ returns-clause-leaves g c =
       numbers = joined.numbers ∙ left.numbers;
       released = joined.released ∙ left.released;
       room = regroup_room c.resum_moved.new.library.rows (regroup_row c.args.old c.args.album) c.in_ok-left.left c.in_ok-joined.joined
-      c.in_ok-reply.reply c.plan_of-plan.result room place (ap (λ (f : Fresh). f.album) c.plan_of-plan.ensures.fresh)
-      (record {
-        changes_are = c.plan_of-plan.ensures.changes ∙ c.in_ok-changes.ensures;
-        released_is = c.plan_of-plan.ensures.released;
-        reply_is = c.plan_of-plan.ensures.reply;
-      });
+          c.in_ok-reply.reply c.plan_of-plan.result room place (ap (λ (f : Fresh). f.album) c.plan_of-plan.ensures.fresh)
+          (record {
+            changes_are = c.plan_of-plan.ensures.changes ∙ c.in_ok-changes.ensures;
+            released_is = c.plan_of-plan.ensures.released;
+            reply_is = c.plan_of-plan.ensures.reply;
+          });
       own = tt;
     }

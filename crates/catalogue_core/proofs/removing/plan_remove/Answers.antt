@@ -27,11 +27,11 @@ returns-clause-leaves g c =
       numbers = kept.numbers;
       released = kept.released;
       room = remove_room c.resum_without.new.library.rows old.id old.take c.in_ok-resummed.resummed c.in_ok-reply.reply c.plan_of-plan.result
-      (kept.room.room 6 c.requires)
-      (record {
-        changes_are = c.plan_of-plan.ensures.changes ∙ c.in_ok-changes.ensures;
-        released_is = c.plan_of-plan.ensures.released;
-        reply_is = c.plan_of-plan.ensures.reply;
-      });
+          (kept.room.room 6 c.requires)
+          (record {
+            changes_are = c.plan_of-plan.ensures.changes ∙ c.in_ok-changes.ensures;
+            released_is = c.plan_of-plan.ensures.released;
+            reply_is = c.plan_of-plan.ensures.reply;
+          });
       own = tt;
     }

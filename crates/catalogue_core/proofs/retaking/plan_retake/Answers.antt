@@ -1,4 +1,5 @@
 use Rattle.std.proofs.Common.{◌≡◌, ◌∙◌, ◌++◌, ◌∷◌, ℕ, false, refl, sym, ap, subst, map, nat_le, List, Option, Some}
+use Rattle.lib_base.specs.declared.limits.TheConstants.{NUMBERS_END}
 use Rattle.keeper_store.specs.declared.contents.Change.{Change}
 use Rattle.catalogue_rows.specs.Room.{HasPlaceIn, one_in}
 use Rattle.catalogue_rows.specs.declared.fresh.Fresh.{Fresh}
@@ -9,7 +10,6 @@ use Rattle.keeper_store.specs.declared.row_types.RecordingRow.{RecordingRow}
 use Rattle.library_model.specs.Batches.{retake_changes, retake_row}
 use Rattle.library_model.specs.Bodies.{row_reply}
 use Rattle.library_model.specs.Stands.{tables_of}
-use Rattle.library_model.specs.State.{numbers_end}
 use Rattle.sound_model.proofs.SummaryLaws.{Summarises-unique}
 use Rattle.catalogue_core.specs.Plans.{IsPlan}
 use Rattle.catalogue_core.specs.Resumming.{in_list}
@@ -23,7 +23,7 @@ returns-clause-decides g c = λ s token mark holds open_ there take.
     let a = c.args in
     let m = a.measured.now in
     let same = c.next_numbers-next.ensures ∙ holds.numbers in
-    let left = subst (λ (n : NextNumbers). nat_le numbers_end n.take ≡ false) holds.numbers c.requires.left in
+    let left = subst (λ (n : NextNumbers). nat_le NUMBERS_END n.take ≡ false) holds.numbers c.requires.left in
     let after = tables_after s a.old a.file.now m a.tally.summary in
     let joins = retake_joins s a.id a.old a.file.now m a.tally open_.valid there take.measured.within take.measured.stands in
     let sums = c.in_ok-resummed.ensures.row t after holds joins in
@@ -36,7 +36,7 @@ returns-clause-decides g c = λ s token mark holds open_ there take.
     (row_reply 200 (retake_row (next_numbers t) a.old a.file.now m a.tally.summary)) c.plan_of-plan.result =
     record {
       changes_are = c.plan_of-plan.ensures.changes ∙ c.in_ok-changes.ensures ∙ ap (λ (n : NextNumbers). front n c.row_of-row.result) same
-      ∙ ap (front (next_numbers t)) row_is;
+          ∙ ap (front (next_numbers t)) row_is;
       released_is = c.plan_of-plan.ensures.released;
       reply_is = c.plan_of-plan.ensures.reply ∙ c.in_ok-reply.ensures ∙ ap (row_reply 200) row_is;
     } in
@@ -54,12 +54,12 @@ returns-clause-leaves g c =
       numbers = kept.numbers;
       released = kept.released;
       room = retake_room c.resum_with.new.library.rows c.next_numbers-next.result c.args.measured.now c.row_of-row.result c.args.old.take
-      c.in_ok-resummed.resummed c.in_ok-reply.reply c.plan_of-plan.result (kept.room.room 6 c.requires.room) place
-      (ap (λ (f : Fresh). f.album) c.plan_of-plan.ensures.fresh)
-      (record {
-        changes_are = c.plan_of-plan.ensures.changes ∙ c.in_ok-changes.ensures;
-        released_is = c.plan_of-plan.ensures.released;
-        reply_is = c.plan_of-plan.ensures.reply;
-      });
+          c.in_ok-resummed.resummed c.in_ok-reply.reply c.plan_of-plan.result (kept.room.room 6 c.requires.room) place
+          (ap (λ (f : Fresh). f.album) c.plan_of-plan.ensures.fresh)
+          (record {
+            changes_are = c.plan_of-plan.ensures.changes ∙ c.in_ok-changes.ensures;
+            released_is = c.plan_of-plan.ensures.released;
+            reply_is = c.plan_of-plan.ensures.reply;
+          });
       own = tt;
     }

@@ -1,8 +1,8 @@
 use Rattle.std.proofs.Common.{◌≡◌, ◌∙◌, ◌≤◌, refl, subst}
+use Rattle.lib_base.specs.declared.limits.TheConstants.{NUMBERS_END}
 use Rattle.keeper_store.specs.declared.contents.NextNumbers.{NextNumbers}
 use Rattle.library_model.specs.Replies.{refusal}
 use Rattle.library_model.specs.Stands.{tables_of}
-use Rattle.library_model.specs.State.{numbers_end}
 use Rattle.library_model.specs.declared.messages.Command.TheVariants.{Retake}
 use Rattle.library_model.specs.declared.refusals.Refusal.TheVariants.{Ids}
 use Rattle.library_model.proofs.Refusing.{retake_ids}
@@ -16,7 +16,7 @@ plan_retake-requires-clause-room g c = c.reserve_in.ensures.kept.room 6 c.in_ok-
 pub returns-then-next_numbers-ge-NUMBERS_END-clause-decides : goal.returns-then-next_numbers-ge-NUMBERS_END-clause-decides
 returns-then-next_numbers-ge-NUMBERS_END-clause-decides g c = λ s token mark holds open_ there take.
     let a = c.args in
-    let ends = subst (λ (n : NextNumbers). numbers_end ≤ n.take) (c.next_numbers.ensures ∙ holds.numbers) c.if-next_numbers-ge-NUMBERS_END.true in
+    let ends = subst (λ (n : NextNumbers). NUMBERS_END ≤ n.take) (c.next_numbers.ensures ∙ holds.numbers) c.if-next_numbers-ge-NUMBERS_END.true in
     refuses c.refused.result s token mark (Retake a.id a.file.now) (refusal Ids) c.refused.ensures
     (retake_ids s token mark a.id a.old a.file.now take.sound a.tally.summary open_.fresh there (finds_take a.file.now a.measured.now a.tally take)
     (at_end s.next_take ends))

@@ -31,7 +31,7 @@ returns-clause-stages g c =
       held = leaves.held;
       released = leaves.released;
       fits = room_staged c.decide.new.library (text_of request.token) request.mark request.command c.in_ok-decision.decision c.in_ok-staged.staged _ _ c.put_file.result
-      leaves.room c.in_ok-staged.ensures c.put_file.ensures.stays;
+          leaves.room c.in_ok-staged.ensures c.put_file.ensures.stays;
       others = puts.others;
       file = puts.file;
       later = puts.later;

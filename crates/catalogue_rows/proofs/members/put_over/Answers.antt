@@ -1,7 +1,7 @@
 use Rattle.std.proofs.Common.{rules, arith, ◌≡◌, false, length, nat_lt}
 use Rattle.std.proofs.lemmas.Bool.Decides.{nat_tests}
+use Rattle.lib_base.specs.declared.limits.TheConstants.{MOST_MEMBERS}
 use Rattle.album_merge.specs.Members.{ids_of, without_recording}
-use Rattle.library_model.specs.declared.limits.TheConstants.{MOST_MEMBERS}
 use Rattle.catalogue_rows.proofs.Backed.{long_as}
 use Rattle.catalogue_rows.proofs.members.put_over.Goals as goal
 
