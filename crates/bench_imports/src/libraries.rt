@@ -1,13 +1,23 @@
 //! A library in memory, into which waves are imported.
-use catalogue_core::{Library, Staged, ask, commit, stage};
+ghost use Rattle.std.specs.Prelude.{◌≡◌, IfOk, IfSome, true};
+ghost use Rattle.kept_replies.specs.Tokens.{text_of};
+ghost use Rattle.library_model.specs.Stands.{BringsWithin};
+ghost use Rattle.catalogue_core.specs.Kept.{IsFresh};
+
+use catalogue_core::{Library, Request, Seen, Staged, Token, ask, commit, stage};
+use json_bodies::is_name;
 use keeper_store::{MemKeeper, MemVault, Tables};
-use lib_base::{Bytes, Memory, Steps};
-use library_model::{Command, Question, Request};
+use lib_base::{Bytes, Memory, Steps, Text};
+use library_model::limits::MOST_BODY_BYTES;
+use library_model::{Command, Question};
 use measure_pool::OpenGate;
 use std::alloc::Global;
 use std::marker::Sync;
 use std::sync::ledger::Ledger;
 use std::thread::Threads;
+
+/// The mark of each import, since each has a token of its own.
+const MARK: [u8; 16] = [0; 16];
 
 /// A library with its keeper and vault, which never fail.
 #[derive(Drop)]
@@ -31,20 +41,43 @@ impl Opened {
         })
     }
 
-    /// Imports a file by one worker: whether it was accepted.
+    /// Imports a file by one worker, under a token made of a number: whether it was accepted.
     pub fn import<R: Threads + Sync, L: Ledger>(
         &mut self,
         rt: &R,
         alloc: Global,
         file: &[u8],
+        number: u32,
         steps: &mut Steps<L>,
     ) -> Result<bool, Memory> {
-        let request = Request {
-            command: Command::Import {
-                bytes: Bytes::copy(alloc, file)?,
-            },
+        let text = format!(alloc; "{number}")?;
+        let Some(token) = Token::of(alloc, text.as_bytes())? else {
+            return Ok(false);
         };
-        let staged = stage(
+        let Some(command) = import_of(alloc, file)? else {
+            return Ok(false);
+        };
+        if !is_fresh(&self.library, &token) {
+            return Ok(false);
+        }
+        let request = Request {
+            token,
+            mark: MARK,
+            command,
+        };
+        self.make(rt, request, steps)
+    }
+
+    fn make<R: Threads + Sync, L: Ledger>(
+        &mut self,
+        rt: &R,
+        request: Request,
+        steps: &mut Steps<L>,
+    ) -> Result<bool, Memory>
+        requires fresh { IsFresh self.old.library (text_of request.token) }
+        requires within { BringsWithin request.command }
+    {
+        match stage(
             rt,
             &mut self.library,
             request,
@@ -52,8 +85,7 @@ impl Opened {
             1,
             &OpenGate,
             steps,
-        )?;
-        match staged {
+        )? {
             Staged::Refused(_) => Ok(false),
             Staged::Ready(ready) => {
                 let reply = commit(&mut self.library, ready, &mut self.keeper);
@@ -85,4 +117,30 @@ impl Opened {
         }
         Ok(found)
     }
+}
+
+/// Whether nothing is kept under the token.
+fn is_fresh(library: &Library, token: &Token) -> bool
+    ensures { result ≡ true → IsFresh library.now (text_of token.now) }
+{
+    match library.seen(token, &MARK) {
+        Seen::Fresh => true,
+        _ => false,
+    }
+}
+
+/// The import of a file into no album, with no name.
+fn import_of(alloc: Global, file: &[u8]) -> Result<Option<Command>, Memory>
+    ensures { IfOk result (λ command. IfSome command BringsWithin) }
+{
+    if !is_name(b"".as_slice()) || file.len() as u64 > MOST_BODY_BYTES {
+        return Ok(None);
+    }
+    let name = Text::of(String::from_str(alloc, "")?);
+    let bytes = Bytes::copy(alloc, file)?;
+    Ok(Some(Command::Import {
+        album: None,
+        name,
+        bytes,
+    }))
 }
