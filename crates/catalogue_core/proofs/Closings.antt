@@ -33,11 +33,11 @@ closing_fits (row ∷ albums) token mark reply fresh t there =
     closing_fits albums token mark reply (record fresh { album = None }) (changed (PutAlbum row) t) (there_still t.albums row albums there.1))
 
 -- The row of an album with other levels has its id.
-pub resummed_id : (t next : Tables) (id : ℕ) (row : AlbumRow) → IsResummed t next id row → row.id ≡ id
+pub resummed_id : (t next : Tables) (id : ℕ) (row : AlbumRow) → IsResummed t.albums next id row → row.id ≡ id
 resummed_id t next id row is = ap (λ (a : AlbumRow). a.id) is.row_is ∙ album_named id t.albums is.old is.found
 
 -- Albums with other levels are there.
-pub resummed_there : (t next : Tables) (ids : List ℕ) (rows : List AlbumRow) → AreResummed t next ids rows → AreThere t.albums rows
+pub resummed_there : (t next : Tables) (ids : List ℕ) (rows : List AlbumRow) → AreResummed t.albums next ids rows → AreThere t.albums rows
 resummed_there t next [] [] are = tt
 resummed_there t next [] (row ∷ rows) are = absurd are
 resummed_there t next (id ∷ ids) [] are = absurd are
@@ -47,7 +47,7 @@ resummed_there t next (id ∷ ids) (row ∷ rows) are =
 
 -- The row of the album that is named is the one album with other levels, if one is named.
 pub resummed_list : (t next : Tables) (album : Option ℕ) (row : Option AlbumRow) → IsResummedIn t next album row
-    → AreResummed t next (ids_in album) (in_list row)
+    → AreResummed t.albums next (ids_in album) (in_list row)
 resummed_list t next None None is = tt
 resummed_list t next None (Some row) is = absurd is
 resummed_list t next (Some album) None is = absurd is

@@ -1,7 +1,8 @@
 -- Imports are decided as the machine decides them.
-use Rattle.std.proofs.Common.{◌≡◌, ◌+◌, ◌++◌, ℕ, true, false, List, [], ◌∷◌, Option, None, Some, map, refl, sym, ap, subst}
+use Rattle.std.proofs.Common.{◌≡◌, ◌+◌, ◌++◌, ◌∙◌, ℕ, true, false, List, [], ◌∷◌, Option, None, Some, map, refl, sym, ap, subst}
 use Rattle.album_merge.specs.Tallies.{Tallied, StandsForMeasured}
 use Rattle.catalogue_rows.specs.Making.{FitsAll}
+use Rattle.catalogue_rows.specs.Seeing.{is_full_in}
 use Rattle.catalogue_rows.specs.declared.fresh.Fresh.{Fresh}
 use Rattle.file_model.specs.Pcm.{Pcm}
 use Rattle.lib_base.specs.declared.files.Measured.{Measured}
@@ -65,10 +66,15 @@ import_joins s album name file m tally valid there few within stands =
     (record { recordings = refl; others = others_measured row.id (segments_of s.next_take m) t next (unnamed_next s valid) refl })
     puts (subst (StandsForMeasured tally) (sym same) stands)
 
+-- An import crowds an album that is full.
+pub crowds_none : (t : Tables) (album : Option ℕ) → crowds None album t.recordings ≡ is_full_in t album
+crowds_none t None = refl
+crowds_none t (Some album) = refl
+
 -- What is planned of an import of which that is measured, with its levels, and the row of its album.
 pub record IsImport (s : State) (album : Option ℕ) (name file : List ℕ) (summary : Summary) (resummed : Option AlbumRow) (plan : Plan) (m : Measured) : Type 0 where
   pub is : IsPlan (import_changes (next_numbers (tables_of s)) m (row_in s album name file m summary) ++ map PutAlbum (in_list resummed)) None
-  (row_reply 201 (row_in s album name file m summary)) plan
+      (row_reply 201 (row_in s album name file m summary)) plan
   pub sums : IsResummedIn (tables_of s) (tables_after s album name file m summary) album resummed
   pub tally : Tallied
   pub fresh : plan.fresh ≡ record { tally = Some tally; album = None }
@@ -79,7 +85,7 @@ pub record IsImport (s : State) (album : Option ℕ) (name file : List ℕ) (sum
 import_fits : (s : State) (album : Option ℕ) (name file : List ℕ) (m : Measured) (tally : Tallied) (albums : List AlbumRow) (token mark : List ℕ)
     → IsValid s → album_is_there album (tables_of s).albums ≡ true → crowds None album (tables_of s).recordings ≡ false → IsWithinBounds m
     → StandsForMeasured tally m
-    → AreResummed (tables_of s) (tables_after s album name file m tally.summary) (ids_in album) albums
+    → AreResummed (tables_of s).albums (tables_after s album name file m tally.summary) (ids_in album) albums
     → FitsAll (import_batch (next_numbers (tables_of s)) m (row_in s album name file m tally.summary) albums token mark
     (row_reply 201 (row_in s album name file m tally.summary))) (record { tally = Some tally; album = None }) (tables_of s)
 import_fits s album name file m tally albums token mark valid there few within stands sums =
@@ -106,7 +112,7 @@ import_of_sound s token mark album name file sound summary resummed plan open_ h
     let albums = in_list resummed in
     let sums = resummed_list t (tables_after s album name file m summary) album resummed import.sums in
     let leads = import_leads s token mark album name file sound summary albums open_.valid open_.fresh home.named limit home.there finds few left sums in
-    let Fits : Summary → Type 0 = λ u. AreResummed t (tables_after s album name file m u) (ids_in album) albums
+    let Fits : Summary → Type 0 = λ u. AreResummed t.albums (tables_after s album name file m u) (ids_in album) albums
         → FitsAll (import_batch (next_numbers t) m (row_in s album name file m u) albums token mark (row_reply 201 (row_in s album name file m u)))
         (record { tally = Some import.tally; album = None }) t in
     let fits = subst Fits import.levels

@@ -8,6 +8,7 @@ use Rattle.catalogue_rows.specs.Making.{FitsRecording, HasTally, Moves}
 use Rattle.catalogue_rows.specs.Trying.{HasPlaceFor, MeasuresOthers, PutsRow}
 use Rattle.lib_base.specs.declared.files.Measured.{Measured}
 use Rattle.keeper_store.specs.Changes.{changed}
+use Rattle.keeper_store.specs.EnergyBytes.{energies_in}
 use Rattle.keeper_store.specs.Puts.{put, recording_less, segments_less}
 use Rattle.keeper_store.specs.declared.contents.Change.TheVariants.{PutSegments}
 use Rattle.keeper_store.specs.declared.contents.Tables.{Tables}
@@ -95,7 +96,7 @@ energies_put take row (s ∷ rows) apart =
         → (first : Bool) → nat_lt s.take row.take ≡ first → (second : Bool) → nat_lt row.take s.take ≡ second
         → energies_of_take take (cond first (s ∷ put segments_less row rows) (cond second (row ∷ s ∷ rows) (row ∷ rows)))
         ≡ energies_of_take take (s ∷ rows)
-    cases rest true is second also = ap (λ (es : List ℕ). cond (s.take == take) _ es) rest
+    cases rest true is second also = ap (λ (es : List ℕ). cond (s.take == take) (energies_in s.energies) es) rest
     cases rest false is true also = rw test refl
     cases rest false is false also =
         let other : (s.take == take) ≡ false = grind (arith, nat_tests, is, also, apart) in

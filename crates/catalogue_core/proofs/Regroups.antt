@@ -114,7 +114,7 @@ crowds_full t from (Some to) other = rw (outside_of from to other) refl
 
 -- The rows of both albums ascend as their ids do.
 pub moved_list : (t next : Tables) (from to : Option ℕ) (left joined : Option AlbumRow) → from ≢ to → IsResummedIn t next from left
-    → IsResummedIn t next to joined → AreResummed t next (moved from to) (ascending left joined)
+    → IsResummedIn t next to joined → AreResummed t.albums next (moved from to) (ascending left joined)
 moved_list t next None None None None other a b = tt
 moved_list t next None None None (Some joined) other a b = absurd b
 moved_list t next None to (Some left) joined other a b = absurd a
@@ -134,7 +134,7 @@ moved_list t next (Some from) (Some to) (Some left) (Some joined) other a b =
     neither m n apart below above is also = grind (arith, nat_tests, apart, below, above, is, also)
 
     cases : (same : Bool) → (from == to) ≡ same → (below : Bool) → nat_lt from to ≡ below → (above : Bool) → nat_lt joined.id left.id ≡ above
-        → AreResummed t next (cond same [] (cond below (from ∷ to ∷ []) (to ∷ from ∷ []))) (cond above (joined ∷ left ∷ []) (left ∷ joined ∷ []))
+        → AreResummed t.albums next (cond same [] (cond below (from ∷ to ∷ []) (to ∷ from ∷ []))) (cond above (joined ∷ left ∷ []) (left ∷ joined ∷ []))
     cases true is below lt above gt =
         let one : from ≡ to = grind (arith, nat_tests, is) in absurd (other (ap (λ (n : ℕ). Some n) one))
     cases false is true lt true gt = absurd (lesser from to lt gt (resummed_id t next from left a) (resummed_id t next to joined b))

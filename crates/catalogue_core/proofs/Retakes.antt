@@ -57,7 +57,7 @@ retake_joins s id old file m tally valid there within stands =
 -- What is planned of a new take of which that is measured, with its levels, and the row of its album.
 pub record IsRetake (s : State) (old : RecordingRow) (file : List ℕ) (summary : Summary) (resummed : Option AlbumRow) (plan : Plan) (m : Measured) : Type 0 where
   pub is : IsPlan (retake_changes (next_numbers (tables_of s)) m (row_in s old file m summary) ++ DropSegments old.take ∷ map PutAlbum (in_list resummed))
-  (Some old.take) (row_reply 200 (row_in s old file m summary)) plan
+      (Some old.take) (row_reply 200 (row_in s old file m summary)) plan
   pub sums : IsResummedIn (tables_of s) (tables_after s old file m summary) old.album resummed
   pub tally : Tallied
   pub fresh : plan.fresh ≡ record { tally = Some tally; album = None }
@@ -67,7 +67,7 @@ pub record IsRetake (s : State) (old : RecordingRow) (file : List ℕ) (summary 
 -- Its changes can be made of the tables.
 retake_fits : (s : State) (id : ℕ) (old : RecordingRow) (file : List ℕ) (m : Measured) (tally : Tallied) (albums : List AlbumRow) (token mark : List ℕ)
     → IsValid s → HasRow s id old → IsWithinBounds m → StandsForMeasured tally m
-    → AreResummed (tables_of s) (tables_after s old file m tally.summary) (ids_in old.album) albums
+    → AreResummed (tables_of s).albums (tables_after s old file m tally.summary) (ids_in old.album) albums
     → FitsAll (retake_batch (next_numbers (tables_of s)) m old (row_in s old file m tally.summary) albums token mark
     (row_reply 200 (row_in s old file m tally.summary))) (record { tally = Some tally; album = None }) (tables_of s)
 retake_fits s id old file m tally albums token mark valid there within stands sums =
@@ -96,7 +96,7 @@ retake_of_sound s token mark id old file sound summary resummed plan open_ there
     let albums = in_list resummed in
     let sums = resummed_list t (tables_after s old file m summary) old.album resummed retake.sums in
     let leads = retake_leads s token mark id old file sound summary albums open_.valid open_.fresh limit there finds left sums in
-    let Fits : Summary → Type 0 = λ u. AreResummed t (tables_after s old file m u) (ids_in old.album) albums
+    let Fits : Summary → Type 0 = λ u. AreResummed t.albums (tables_after s old file m u) (ids_in old.album) albums
         → FitsAll (retake_batch (next_numbers t) m old (row_in s old file m u) albums token mark (row_reply 200 (row_in s old file m u)))
         (record { tally = Some retake.tally; album = None }) t in
     let fits = subst Fits retake.levels (retake_fits s id old file m retake.tally albums token mark open_.valid there within retake.stands) sums in

@@ -29,7 +29,7 @@ abbrev pub IsResummedIn : Tables → Tables → Option ℕ → Option AlbumRow �
 IsResummedIn t next None None = ⊤
 IsResummedIn t next None (Some row) = ⊥
 IsResummedIn t next (Some album) None = ⊥
-IsResummedIn t next (Some album) (Some row) = IsResummed t next album row
+IsResummedIn t next (Some album) (Some row) = IsResummed t.albums next album row
 
 -- a recording with a new take comes into the album that is named, if one is, where there is a place for it
 abbrev pub JoinsNamed : Option ℕ → ℕ → Tallied → Tables → Tables → Type 0

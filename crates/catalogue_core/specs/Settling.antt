@@ -11,7 +11,7 @@ use Rattle.library_model.specs.declared.refusals.Refusal.TheVariants.{Vault}
 use Rattle.library_model.specs.Asked.{puts_file}
 use Rattle.library_model.specs.Replies.{refusal}
 use Rattle.library_model.specs.Stands.{HoldsFileOf}
-use Rattle.catalogue_core.specs.Plans.{batch_of}
+use Rattle.catalogue_core.specs.Plans.{IsOwnStatus, batch_of}
 use Rattle.catalogue_core.specs.Staging.{IfReady}
 use Rattle.catalogue_core.specs.declared.plans.Decision.{Decision}
 use Rattle.catalogue_core.specs.declared.plans.Decision.TheVariants as decision
@@ -33,6 +33,11 @@ IsSettled token mark (decision.Refused reply) (Refused said) = said ≡ reply
 IsSettled token mark (decision.Refused reply) (Ready p) = ⊥
 IsSettled token mark (decision.Planned plan) (Refused said) = ⊥
 IsSettled token mark (decision.Planned plan) (Ready p) = IsPreparedOf token mark plan p
+
+-- a refusal tells nothing of the outside
+abbrev pub IsOwnStaged : Staged → Type 0
+IsOwnStaged (Refused reply) = IsOwnStatus reply.status
+IsOwnStaged (Ready p) = ⊤
 
 -- the file that a command brings, if it brings one
 abbrev pub file_of : Command → Option (List ℕ)

@@ -1,5 +1,5 @@
 //! New albums, and albums that are removed.
-ghost use Rattle.std.specs.Prelude.{◌≡◌, false, [], None, IfOk};
+ghost use Rattle.std.specs.Prelude.{◌≡◌, ◌∷◌, [], false, nat_le, None, IfOk};
 ghost use Rattle.keeper_store.specs.declared.contents.Change.TheVariants as change;
 ghost use Rattle.library_model.specs.declared.messages.Command.TheVariants as wanted;
 ghost use Rattle.library_model.specs.Batches.{new_album_changes, new_album_row};
@@ -7,13 +7,12 @@ ghost use Rattle.library_model.specs.Bodies.{album_row_reply, removed_reply};
 ghost use Rattle.library_model.specs.Machine.{no_levels};
 ghost use Rattle.library_model.specs.State.{numbers_end};
 ghost use Rattle.catalogue_rows.specs.Making.{IsEmptyAlbum};
-ghost use Rattle.catalogue_core.specs.Kept.{Holds};
-ghost use Rattle.catalogue_core.specs.Looking.{IsCountOf};
 ghost use Rattle.catalogue_core.specs.Plans.{DecidesOn, IsPlan, Leaves};
 
 use crate::Library;
-use crate::looking::count_of;
-use crate::plans::{Decision, MOST_CHANGES, NUMBERS_END, Plan, refused};
+use crate::looking::{has_members, is_there};
+use crate::plans::{Decision, MOST_CHANGES, NUMBERS_END, Plan};
+use crate::refusing::refused;
 use album_merge::Album;
 use catalogue_rows::Fresh;
 use json_bodies::{describe_album, describe_removed};
@@ -88,14 +87,14 @@ pub(crate) fn decide_remove_album(library: &mut Library, id: u32) -> Result<Deci
     ensures leaves { Leaves library.old library.new result }
 {
     let alloc = library.alloc;
-    match count_of(library, id) {
-        None => refused(alloc, Refusal::NoAlbum),
-        Some(0) => {
-            library.rows.reserve(MOST_CHANGES)?;
-            Ok(Decision::Planned(plan_remove_album(alloc, id)?))
-        }
-        Some(_) => refused(alloc, Refusal::NotEmpty),
+    if !is_there(library, Some(id)) {
+        return refused(alloc, Refusal::NoAlbum);
     }
+    if has_members(library, id) {
+        return refused(alloc, Refusal::NotEmpty);
+    }
+    library.rows.reserve(MOST_CHANGES)?;
+    Ok(Decision::Planned(plan_remove_album(alloc, id)?))
 }
 
 /// The change that removes an album.

@@ -56,8 +56,10 @@ fn ids_of(alloc: Global, members: &Album) -> Result<Vec<u32>, Memory>
     ensures { IfOk result (λ ids. ids.items ≡ merge.ids_of members.now) }
 {
     let mut ids = Vec::with_capacity(alloc, members.len())?;
-    for place in 0..members.len() {
+    let mut place = 0usize;
+    while place < members.len() {
         ids.push(members.id_at(place))?;
+        place += 1;
     }
     Ok(ids)
 }

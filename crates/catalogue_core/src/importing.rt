@@ -3,7 +3,7 @@ ghost use Rattle.std.specs.Prelude.{◌≡◌, ◌≤◌, ◌++◌, ℕ, List, t
 ghost use Rattle.keeper_store.specs.EnergyBytes.{AreEnergies};
 ghost use Rattle.keeper_store.specs.declared.contents.Change.TheVariants as change;
 ghost use Rattle.library_model.specs.declared.messages.Command.TheVariants as wanted;
-ghost use Rattle.library_model.specs.Batches.{import_changes};
+ghost use Rattle.library_model.specs.Batches.{import_changes, import_row};
 ghost use Rattle.library_model.specs.Names.{is_name};
 ghost use Rattle.library_model.specs.Stands.{IsWithinLimit, tables_of};
 ghost use Rattle.library_model.specs.State.{State};
@@ -20,14 +20,15 @@ ghost use Rattle.catalogue_core.specs.Resumming.{in_list};
 use crate::Library;
 use crate::examining::{Examined, examine};
 use crate::looking::is_there;
-use crate::plans::{Decision, MOST_CHANGES, NUMBERS_END, Plan, refused, refused_for};
+use crate::planning::plan_of;
+use crate::plans::{Decision, MOST_CHANGES, NUMBERS_END};
+use crate::refusing::{refused, refused_for};
 use crate::resumming::{push_album, resum_with};
 use crate::takes::{Named, row_of, segments_of};
 use album_merge::TrackTally;
-use catalogue_rows::Fresh;
 use json_bodies::describe_row;
 use keeper_store::{AlbumRow, Change, NextNumbers, RecordingRow};
-use lib_base::{Measured, Memory, Steps, Text};
+use lib_base::{Measured, Memory, Steps, Summary, Text};
 use library_model::Refusal;
 use measure_pool::Gate;
 use std::alloc::Global;
@@ -119,23 +120,30 @@ fn plan_import<L: Ledger>(
     let next = library.rows.next_numbers();
     let summary = tally.summary();
     let (resummed, tally) = resum_with(library, album, next.recording, tally, steps)?;
+    let row = new_row(next, album, name, file, measured, summary)?;
+    let reply = describe_row(alloc, 201, &row)?;
+    let changes = changes_of(alloc, next, row, measured, resummed)?;
+    let plan = plan_of(changes, Some(tally), None, reply);
+    Ok(Decision::Planned(plan))
+}
+
+/// The row of a recording of the next numbers.
+fn new_row(
+    next: NextNumbers,
+    album: Option<u32>,
+    name: &Text,
+    file: &[u8],
+    measured: &Measured,
+    summary: Summary,
+) -> Result<RecordingRow, Memory>
+    ensures { IfOk result (λ row. row ≡ import_row next album name.now file.now measured.now summary) }
+{
     let named = Named {
         id: next.recording,
         album,
         name: name.clone()?,
     };
-    let row = row_of(named, next.take, file, measured, summary);
-    let reply = describe_row(alloc, 201, &row)?;
-    let changes = changes_of(alloc, next, row, measured, resummed)?;
-    Ok(Decision::Planned(Plan {
-        changes,
-        fresh: Fresh {
-            tally: Some(tally),
-            album: None,
-        },
-        released: None,
-        reply,
-    }))
+    Ok(row_of(named, next.take, file, measured, summary))
 }
 
 /// The changes that put a recording of the next numbers, its segments before it, and its album's row.

@@ -8,13 +8,30 @@
 //! state that the reply leads to. Stopped anywhere between them, the old state stands or the new one.
 #![tactic(auto)]
 
+mod albums;
 mod asking;
 mod committing;
+mod deciding;
+mod examining;
+mod importing;
 mod libraries;
+mod looking;
+mod planning;
+mod plans;
 mod prepared;
+mod putting;
+mod refusing;
+mod regrouping;
+mod removing;
 mod requests;
+mod resumming;
+mod retaking;
+mod settling;
 mod staging;
 mod sweeping;
+mod takes;
+#[cfg(test)]
+mod tests;
 
 pub use asking::ask;
 pub use committing::commit;

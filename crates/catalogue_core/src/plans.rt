@@ -1,15 +1,9 @@
 //! What is decided of a command, before its reply is kept.
-ghost use Rattle.std.specs.Prelude.{◌≡◌, ◌≤◌, IfOk};
-ghost use Rattle.library_model.specs.Replies.{format_refusal, refusal};
-ghost use Rattle.catalogue_core.specs.declared.plans.Decision.TheVariants as decision;
-ghost use Rattle.catalogue_core.specs.Plans.{IsOfRequest};
+ghost use Rattle.std.specs.Prelude.{◌≤◌};
 
 use catalogue_rows::Fresh;
-use json_bodies::{refuse, refuse_format};
 use keeper_store::Change;
-use lib_base::{Broken, Memory};
-use library_model::{Refusal, Reply};
-use std::alloc::Global;
+use library_model::Reply;
 
 /// The number from which on none is given to an album, a recording or a take.
 pub(crate) const NUMBERS_END: u32 = 2_147_483_647;
@@ -36,19 +30,4 @@ pub enum Decision {
     Refused(Reply),
     /// It is accepted, and this is its change.
     Planned(Plan),
-}
-
-/// The refusal for a cause that lies in the request and in the rows.
-pub(crate) fn refused(alloc: Global, cause: Refusal) -> Result<Decision, Memory>
-    requires { IsOfRequest cause }
-    ensures { IfOk result (λ made. made ≡ decision.Refused (refusal cause)) }
-{
-    Ok(Decision::Refused(refuse(alloc, cause)?))
-}
-
-/// The refusal of a file that breaks a rule.
-pub(crate) fn refused_for(alloc: Global, fault: Broken) -> Result<Decision, Memory>
-    ensures { IfOk result (λ made. made ≡ decision.Refused (format_refusal fault.rule fault.place)) }
-{
-    Ok(Decision::Refused(refuse_format(alloc, fault)?))
 }

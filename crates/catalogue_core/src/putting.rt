@@ -1,8 +1,9 @@
 //! The file of a staged command, put into the vault.
 ghost use Rattle.std.specs.Prelude.{◌≡◌, Some, option_copied};
 ghost use Rattle.catalogue_core.specs.declared.prepared.Staged.TheVariants as staging;
+ghost use Rattle.catalogue_core.specs.Causes.{StagesBy};
 ghost use Rattle.catalogue_core.specs.Kept.{numbers_of};
-ghost use Rattle.catalogue_core.specs.Settling.{PutsFile, StaysUnlessFailed, file_of};
+ghost use Rattle.catalogue_core.specs.Settling.{IsOwnStaged, PutsFile, StaysUnlessFailed, file_of};
 ghost use Rattle.catalogue_core.specs.Staging.{LeavesUnlessFailed, SparesVault};
 
 use crate::{Library, Prepared, Staged};
@@ -19,6 +20,8 @@ pub(crate) fn put_file<V: Vault>(
     staged: Staged,
     vault: &mut V,
 ) -> Result<Staged, Memory>
+    requires { IsOwnStaged staged }
+    ensures causes { StagesBy (V.shown vault.old).faults (V.shown vault.new).faults result }
     ensures stays { StaysUnlessFailed command.now staged (V.shown vault.old).faults (V.shown vault.new).faults result }
     ensures puts { PutsFile command.now (numbers_of library.now).take (V.shown vault.old) (V.shown vault.new) result }
     ensures untouched { LeavesUnlessFailed result vault.old vault.new }
@@ -54,6 +57,7 @@ fn put_ready<V: Vault>(
     vault: &mut V,
 ) -> Result<Staged, Memory>
     requires { file_of command.now ≡ Some file.now }
+    ensures causes { StagesBy (V.shown vault.old).faults (V.shown vault.new).faults result }
     ensures stays { StaysUnlessFailed command.now (staging.Ready ready) (V.shown vault.old).faults (V.shown vault.new).faults result }
     ensures puts { PutsFile command.now (numbers_of library.now).take (V.shown vault.old) (V.shown vault.new) result }
     ensures untouched { LeavesUnlessFailed result vault.old vault.new }

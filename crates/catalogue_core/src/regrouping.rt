@@ -17,8 +17,10 @@ ghost use Rattle.catalogue_core.specs.Plans.{DecidedFrom, DecidesOn, IsPlan, Lea
 ghost use Rattle.catalogue_core.specs.Resumming.{in_list};
 
 use crate::Library;
-use crate::looking::{is_there, recording_of};
-use crate::plans::{Decision, MOST_CHANGES, Plan, refused};
+use crate::looking::{is_same, is_there, recording_of};
+use crate::planning::plan_of;
+use crate::plans::{Decision, MOST_CHANGES, Plan};
+use crate::refusing::refused;
 use crate::resumming::{push_album, resum_moved, resum_without};
 use catalogue_rows::Fresh;
 use json_bodies::describe_row;
@@ -45,7 +47,7 @@ pub(crate) fn decide_regroup<L: Ledger>(
         return refused(library.alloc, Refusal::NoAlbum);
     }
     library.rows.reserve(MOST_CHANGES)?;
-    if old.album == album {
+    if is_same(old.album, album) {
         return Ok(Decision::Planned(plan_same(library.alloc, &old)?));
     }
     regroup_other(library, id, old, album, steps)
@@ -108,12 +110,8 @@ fn plan_regroup<L: Ledger>(
     let row = RecordingRow { album, ..old };
     let reply = describe_row(alloc, 200, &row)?;
     let changes = changes_of(alloc, row, left, joined)?;
-    Ok(Decision::Planned(Plan {
-        changes,
-        fresh: Fresh::none(),
-        released: None,
-        reply,
-    }))
+    let plan = plan_of(changes, None, None, reply);
+    Ok(Decision::Planned(plan))
 }
 
 /// The changes that put a recording elsewhere, and the rows of the album that it leaves and of the one

@@ -13,9 +13,10 @@ ghost use Rattle.catalogue_core.specs.Resumming.{in_list};
 
 use crate::Library;
 use crate::looking::recording_of;
-use crate::plans::{Decision, MOST_CHANGES, Plan, refused};
+use crate::planning::plan_of;
+use crate::plans::{Decision, MOST_CHANGES};
+use crate::refusing::refused;
 use crate::resumming::{push_album, resum_without};
-use catalogue_rows::Fresh;
 use json_bodies::describe_removed;
 use keeper_store::{AlbumRow, Change, RecordingRow};
 use lib_base::{Memory, Steps};
@@ -55,12 +56,8 @@ fn plan_remove<L: Ledger>(
     let resummed = resum_without(library, old.album, old.id, steps)?;
     let reply = describe_removed(alloc, old.id)?;
     let changes = changes_of(alloc, old, resummed)?;
-    Ok(Decision::Planned(Plan {
-        changes,
-        fresh: Fresh::none(),
-        released: Some(old.take),
-        reply,
-    }))
+    let plan = plan_of(changes, None, Some(old.take), reply);
+    Ok(Decision::Planned(plan))
 }
 
 /// The changes that drop a recording and its segments, and put its album's row.

@@ -1,9 +1,11 @@
 //! The rows of albums whose recordings a change makes others.
-ghost use Rattle.std.specs.Prelude.{◌≡◌, ◌++◌, Some, map, IfOk, OnOk};
+ghost use Rattle.std.specs.Prelude.{◌≡◌, ◌++◌, true, Some, map, IfOk, OnOk};
 ghost use Rattle.lib_base.specs.declared.files.Measured.{Measured};
 ghost use Rattle.keeper_store.specs.declared.contents.Change.TheVariants as change;
 ghost use Rattle.album_merge.specs.Tallies.{StandsForMeasured};
+ghost use Rattle.library_model.specs.RowRules.{has_album};
 ghost use Rattle.catalogue_rows.specs.Room.{HasPlaceIn};
+ghost use Rattle.catalogue_rows.specs.Trying.{IsSumIn};
 ghost use Rattle.catalogue_core.specs.Kept.{Holds};
 ghost use Rattle.catalogue_core.specs.Resumming.{HasLevels, IsResummedIn, JoinsNamed, KeepsRows, LeavesNamed, MovesIntoNamed, in_list};
 
@@ -31,7 +33,8 @@ pub(crate) fn resum_with<L: Ledger>(
         return Ok((None, tally));
     };
     let (levels, tally) = library.rows.summary_with(album, id, tally, steps);
-    Ok((resummed(library, album, levels)?, tally))
+    let row = resummed(library, album, levels)?;
+    Ok((row, tally))
 }
 
 /// The row of the album that is named, if one is, once a recording comes into it.
@@ -80,14 +83,32 @@ fn resummed(
     ensures { (t next : Tables) → Holds library.now t → HasLevels t next album levels
         → IfOk result (IsResummedIn t next (Some album)) }
 {
-    match (library.rows.album(album), levels) {
-        (Some(row), Some(summary)) => Ok(Some(AlbumRow {
-            id: row.id,
-            name: row.name.clone()?,
-            summary,
-        })),
-        _ => Ok(None),
+    match levels {
+        Some(summary) => row_with(library, album, summary),
+        None => Ok(None),
     }
+}
+
+/// The row of an album with these levels, where it is there.
+fn row_with(library: &Library, album: u32, summary: Summary) -> Result<Option<AlbumRow>, Memory>
+    ensures { (t next : Tables) → Holds library.now t → has_album album t.albums ≡ true → IsSumIn next album summary
+        → IfOk result (IsResummedIn t next (Some album)) }
+{
+    match library.rows.album(album) {
+        Some(row) => Ok(Some(with_levels(row, summary)?)),
+        None => Ok(None),
+    }
+}
+
+/// The row with other levels.
+fn with_levels(row: &AlbumRow, summary: Summary) -> Result<AlbumRow, Memory>
+    ensures { IfOk result (λ made. made ≡ record row.now { summary = summary }) }
+{
+    Ok(AlbumRow {
+        id: row.id,
+        name: row.name.clone()?,
+        summary,
+    })
 }
 
 /// Puts an album's row last among changes, if there is one.

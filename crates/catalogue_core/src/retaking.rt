@@ -17,11 +17,12 @@ ghost use Rattle.catalogue_core.specs.Resumming.{in_list};
 use crate::Library;
 use crate::examining::{Examined, examine};
 use crate::looking::recording_of;
-use crate::plans::{Decision, MOST_CHANGES, NUMBERS_END, Plan, refused, refused_for};
+use crate::planning::plan_of;
+use crate::plans::{Decision, MOST_CHANGES, NUMBERS_END};
+use crate::refusing::{refused, refused_for};
 use crate::resumming::{push_album, resum_with};
 use crate::takes::{Named, row_of, segments_of};
 use album_merge::TrackTally;
-use catalogue_rows::Fresh;
 use json_bodies::describe_row;
 use keeper_store::{AlbumRow, Change, NextNumbers, RecordingRow};
 use lib_base::{Measured, Memory, Steps};
@@ -112,15 +113,8 @@ fn plan_retake<L: Ledger>(
     let row = row_of(named, next.take, file, measured, summary);
     let reply = describe_row(alloc, 200, &row)?;
     let changes = changes_of(alloc, next, row, measured, taken, resummed)?;
-    Ok(Decision::Planned(Plan {
-        changes,
-        fresh: Fresh {
-            tally: Some(tally),
-            album: None,
-        },
-        released: Some(taken),
-        reply,
-    }))
+    let plan = plan_of(changes, Some(tally), Some(taken), reply);
+    Ok(Decision::Planned(plan))
 }
 
 /// The changes that put a recording under the next take, its segments before it, drop those of the

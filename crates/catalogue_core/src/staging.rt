@@ -9,6 +9,9 @@ ghost use Rattle.catalogue_core.specs.Kept.{IsFresh, Keeps};
 ghost use Rattle.catalogue_core.specs.Requests.{asked_by};
 ghost use Rattle.catalogue_core.specs.Staging.{LeavesUnlessFailed, SparesVault, StagedFrom, Stages};
 
+use crate::deciding::decide;
+use crate::putting::put_file;
+use crate::settling::settle;
 use crate::{Library, Request, Staged};
 use keeper_store::Vault;
 use lib_base::{Memory, Steps};
@@ -45,6 +48,12 @@ pub fn stage<R: Threads + Sync, V: Vault, G: Gate, L: Ledger>(
     // Nor is it called for a command that puts no file.
     ensures spared { SparesVault request.command vault.old vault.new }
 {
-    let _ = (rt, library, request, vault, workers, gate, steps);
-    Err(Memory)
+    let Request {
+        token,
+        mark,
+        command,
+    } = request;
+    let decision = decide(rt, library, &command, workers, gate, steps)?;
+    let staged = settle(library.alloc, token, mark, decision)?;
+    put_file(library, &command, staged, vault)
 }

@@ -8,11 +8,12 @@ use Rattle.keeper_store.specs.declared.contents.Tables.{Tables}
 use Rattle.keeper_store.specs.declared.row_types.AlbumRow.{AlbumRow}
 use Rattle.keeper_store.specs.declared.row_types.RecordingRow.{RecordingRow}
 use Rattle.keeper_store.specs.declared.row_types.SegmentRow.{SegmentRow}
-use Rattle.keeper_store.specs.declared.contents.Change.TheVariants.{PutAlbum, PutSegments, DropAlbum}
+use Rattle.keeper_store.specs.declared.contents.Change.TheVariants.{PutAlbum, PutSegments, DropAlbum, DropSegments}
 use Rattle.keeper_store.specs.Changes.{changed}
 use Rattle.keeper_store.specs.EnergyBytes.{energies_in}
-use Rattle.keeper_store.specs.Puts.{put, without, album_less, album_id, segments_less}
-use Rattle.keeper_store.proofs.Putting.{map-put, AllByRecursion-put, AllByRecursion-weaken}
+use Rattle.keeper_store.specs.Puts.{put, without, album_less, album_id, segments_less, segments_take, Ascends, IsFirstOfNumber}
+use Rattle.std.proofs.Math.ListN.{get_or, set}
+use Rattle.keeper_store.proofs.Putting.{map-put, AllByRecursion-put, AllByRecursion-weaken, All-at, Ascends-put}
 use Rattle.keeper_store.proofs.Dropping.{map-without, AllByRecursion-without}
 use Rattle.album_merge.specs.Members.{IsAlbumOf, Kept}
 use Rattle.album_merge.specs.Tallies.{Tallied, StandsForMeasured}
@@ -20,10 +21,11 @@ use Rattle.library_model.specs.RowRules.{measured_in, members_in, is_in_album, e
 use Rattle.catalogue_rows.specs.declared.kept.KeptAlbum.{KeptAlbum}
 use Rattle.catalogue_rows.specs.declared.kept.KeptRecording.{KeptRecording}
 use Rattle.catalogue_rows.specs.declared.rows.CatalogueRows.{CatalogueRows}
-use Rattle.catalogue_rows.specs.KeptOrders.{kept_album_id, kept_album_less, kept_recording_id}
+use Rattle.catalogue_rows.specs.KeptOrders.{kept_album_id, kept_album_less, kept_albums_in_order, kept_recording_id}
 use Rattle.kept_replies.specs.Holding as replies
 use Rattle.kept_replies.specs.declared.keeping.KeptReplies.{KeptReplies}
 use Rattle.catalogue_rows.specs.Making.{HasNoMembers, IsUnnamed}
+use Rattle.catalogue_rows.proofs.Moved.{set_is_put}
 use Rattle.catalogue_rows.specs.Holding.{HasOwn, Holds, IsBeside, IsInAlbum, album_of, album_row, recording_row, numbers_of}
 
 -- a row found among parts
@@ -79,7 +81,7 @@ Holds-drop_album rows next t id holds left numbers recordings same_replies = rec
 }
 
 -- what holds of all rows holds of the one that is found
-found_holds : {K : Type 0} (P : K → Type 0) (test : K → Bool) (k : K) (ks : List K) → Some k ≡ find test ks → AllByRecursion P ks
+pub found_holds : {K : Type 0} (P : K → Type 0) (test : K → Bool) (k : K) (ks : List K) → Some k ≡ find test ks → AllByRecursion P ks
     → P k × (test k ≡ true)
 found_holds P test k [] found all = (cc found, cc found)
 found_holds {K} P test k (x ∷ ks) found all = cases (λ more. found_holds P test k ks more all.1) (test x) refl found
@@ -142,6 +144,20 @@ energies_put take row (s ∷ rows) apart =
         let other : (s.take == take) ≡ false = grind (arith, nat_tests, is, also, apart) in
         rw (test, other) refl
 
+-- they stay where another take's go
+energies_without : (take gone : ℕ) (rows : List SegmentRow) → take ≢ gone
+    → energies_of_take take (without segments_take gone rows) ≡ energies_of_take take rows
+energies_without take gone [] apart = refl
+energies_without take gone (s ∷ rows) apart = cases (energies_without take gone rows apart) (s.take == gone) refl
+  where
+    cases : energies_of_take take (without segments_take gone rows) ≡ energies_of_take take rows → (here : Bool) → (s.take == gone) ≡ here
+        → energies_of_take take (cond (not here) (s ∷ without segments_take gone rows) (without segments_take gone rows))
+        ≡ energies_of_take take (s ∷ rows)
+    cases rest true is =
+        let other : (s.take == take) ≡ false = grind (arith, nat_tests, is, apart) in
+        rw other rest
+    cases rest false is = ap (λ (es : List ℕ). cond (s.take == take) (energies_in s.energies) es) rest
+
 -- rows hold what changes no recording's measure
 Holds-measured : (rows : CatalogueRows) (t : Tables) (segments : List SegmentRow) → Holds rows t
     → AllByRecursion (λ (r : RecordingRow). measured_in (record t { segments = segments }) r ≡ measured_in t r) t.recordings
@@ -180,21 +196,92 @@ Holds-measured rows t segments holds same = record {
     besides (k ∷ ks) all its =
         (subst (λ (m : Measured). HasOwn k.row.album k.tally m) (sym all.0) its.0, besides ks all.1 its.1)
 
--- rows hold the tables with the segments of a take that no recording names
+abbrev measured_with : RecordingRow → List ℕ → Measured
+measured_with r es = record {
+  channels = r.channels;
+  depth = r.depth;
+  frames = r.summary.frames;
+  energies = es;
+  peak = r.summary.peak;
+}
+
+-- the same is measured of a recording of another take once segments are put, or dropped
+pub measured_put : (t : Tables) (row : SegmentRow) (r : RecordingRow) → r.take ≢ row.take
+    → measured_in (changed (PutSegments row) t) r ≡ measured_in t r
+measured_put t row r apart = ap (measured_with r) (energies_put r.take row t.segments (λ same. apart (sym same)))
+
+pub measured_drop : (t : Tables) (take : ℕ) (r : RecordingRow) → r.take ≢ take
+    → measured_in (changed (DropSegments take) t) r ≡ measured_in t r
+measured_drop t take r apart = ap (measured_with r) (energies_without r.take take t.segments apart)
+
+-- Rows hold the tables with the segments of a take that no recording names.
 pub Holds-put_segments : (rows : CatalogueRows) (t : Tables) (row : SegmentRow) → Holds rows t → IsUnnamed row.take t
     → Holds rows (changed (PutSegments row) t)
 Holds-put_segments rows t row holds unnamed =
     Holds-measured rows t (put segments_less row t.segments) holds
     (AllByRecursion-weaken (λ (r : RecordingRow). r.take ≢ row.take)
     (λ (r : RecordingRow). measured_in (record t { segments = put segments_less row t.segments }) r ≡ measured_in t r)
-    (λ r apart. ap (λ (es : List ℕ). measured_with r es) (energies_put r.take row t.segments (λ same. apart (sym same))))
-    t.recordings unnamed)
+    (measured_put t row) t.recordings unnamed)
+
+-- Or without them.
+pub Holds-drop_segments : (rows : CatalogueRows) (t : Tables) (take : ℕ) → Holds rows t → IsUnnamed take t
+    → Holds rows (changed (DropSegments take) t)
+Holds-drop_segments rows t take holds unnamed =
+    Holds-measured rows t (without segments_take take t.segments) holds
+    (AllByRecursion-weaken (λ (r : RecordingRow). r.take ≢ take)
+    (λ (r : RecordingRow). measured_in (record t { segments = without segments_take take t.segments }) r ≡ measured_in t r)
+    (measured_drop t take) t.recordings unnamed)
+
+-- Rows hold the tables with their albums' objects standing for the same.
+pub Holds-albums : (rows next : CatalogueRows) (t : Tables) → Holds rows t → map album_row next.albums.items ≡ map album_row rows.albums.items
+    → AllByRecursion (IsInAlbum t) next.albums.items → next.recordings.items ≡ rows.recordings.items → next.replies ≡ rows.replies
+    → numbers_of next ≡ numbers_of rows → Holds next t
+Holds-albums rows next t holds same members recordings same_replies numbers = record {
+  numbers = numbers ∙ holds.numbers;
+  albums = same ∙ holds.albums;
+  recordings = ap (map recording_row) recordings ∙ holds.recordings;
+  replies = subst (λ (kept : KeptReplies). replies.Holds kept t.replies) (sym same_replies) holds.replies;
+  in_albums = members;
+  beside = subst (λ (l : List KeptRecording). AllByRecursion (IsBeside t) l) (sym recordings) holds.beside;
+}
+
+-- Or with another row over that of an album.
+pub Holds-put_album_over : (rows next : CatalogueRows) (t : Tables) (row : AlbumRow) (place : ℕ) (was : KeptAlbum) → Holds rows t
+    → IsFirstOfNumber kept_album_id row.id rows.albums.items place → was ≡ get_or rows.albums.items place was
+    → next.albums.items ≡ set rows.albums.items place (record { row = row; members = was.members })
+    → numbers_of next ≡ numbers_of rows → next.recordings.items ≡ rows.recordings.items → next.replies ≡ rows.replies
+    → Holds next (changed (PutAlbum row) t)
+Holds-put_album_over rows next t row place was holds at is set_is numbers recordings same_replies = record {
+  numbers = numbers ∙ holds.numbers;
+  albums = ap (map album_row) put_is
+      ∙ map-put kept_album_less album_less album_row (λ a b. refl) kept rows.albums.items
+      ∙ ap (put album_less row) holds.albums;
+  recordings = ap (map recording_row) recordings ∙ holds.recordings;
+  replies = subst (λ (all : KeptReplies). replies.Holds all t.replies) (sym same_replies) holds.replies;
+  in_albums = subst (λ (l : List KeptAlbum). AllByRecursion (IsInAlbum t) l) (sym put_is)
+      (AllByRecursion-put (IsInAlbum t) kept_album_less kept rows.albums.items its holds.in_albums);
+  beside = subst (λ (l : List KeptRecording). AllByRecursion (IsBeside t) l) (sym recordings) holds.beside;
+}
   where
-    measured_with : RecordingRow → List ℕ → Measured
-    measured_with r es = record {
-      channels = r.channels;
-      depth = r.depth;
-      frames = r.summary.frames;
-      energies = es;
-      peak = r.summary.peak;
-    }
+    kept : KeptAlbum
+    kept = record { row = row; members = was.members }
+
+    put_is : next.albums.items ≡ put kept_album_less kept rows.albums.items
+    put_is = set_is ∙ set_is_put kept_album_less kept_album_id (λ a b. refl) kept row.id rows.albums.items place rows.albums_ascend at refl
+
+    same : was.row.id ≡ row.id
+    same = ap kept_album_id is ∙ at.same was
+
+    stood : IsInAlbum t was
+    stood = subst (IsInAlbum t) (sym is) (All-at (IsInAlbum t) rows.albums.items holds.in_albums place was at.inside)
+
+    its : IsInAlbum t kept
+    its = subst (λ (n : ℕ). IsAlbumOf was.members (album_of t t.recordings n)) same stood
+
+-- albums ascend with one put over another
+pub albums_rise_set : (ks : List KeptAlbum) (n place : ℕ) (kept : KeptAlbum) → Ascends kept_album_less ks
+    → IsFirstOfNumber kept_album_id n ks place → kept.row.id ≡ n → Ascends kept_album_less (set ks place kept)
+albums_rise_set ks n place kept rise at same =
+    subst (Ascends kept_album_less)
+    (sym (set_is_put kept_album_less kept_album_id (λ a b. refl) kept n ks place rise at same))
+    (Ascends-put kept_album_less kept_albums_in_order kept ks rise)

@@ -6,7 +6,8 @@ use Rattle.std.proofs.lemmas.Bool.Decides.{nat_tests}
 use Rattle.lib_base.specs.declared.files.Measured.{Measured}
 use Rattle.keeper_store.specs.declared.contents.Tables.{Tables}
 use Rattle.keeper_store.specs.declared.row_types.RecordingRow.{RecordingRow}
-use Rattle.keeper_store.specs.Puts.{put, without, recording_less, recording_id, Ascends}
+use Rattle.keeper_store.specs.Puts.{put, without, recording_less, recording_id, Ascends, IsFirstOfNumber}
+use Rattle.keeper_store.proofs.Putting.{All-at}
 use Rattle.album_merge.specs.Members.{placed, measured_of, with_recording, without_recording, recording_id as id_of}
 use Rattle.library_model.specs.RowRules.{measured_in, members_in, is_in_album}
 use Rattle.catalogue_rows.specs.Holding.{album_of}
@@ -252,6 +253,31 @@ put-without {A} less number told row (r ∷ rows) rise =
         let above = as_high number r row rows same (higher rows rise.0) in
         rw (test, told r row, told row r, is, also)
         (ap (put less row) (without_below number (number row) rows above) ∙ in_front rows above)
+
+-- A row in the place of the one of its number is put over it.
+pub set_is_put : {A : Type 0} (less : A → A → Bool) (number : A → ℕ) → ((a b : A) → less a b ≡ nat_lt (number a) (number b))
+    → (row : A) (n : ℕ) (xs : List A) (place : ℕ) → Ascends less xs → IsFirstOfNumber number n xs place → number row ≡ n
+    → set xs place row ≡ put less row xs
+set_is_put less number told row n [] place rise at same = let inside = at.inside in absurd (omega (arith, inside))
+set_is_put less number told row n (x ∷ xs) zero rise at same =
+    let here = at.same x in
+    let not_below : nat_lt (number x) (number row) ≡ false = grind (arith, nat_tests, here, same) in
+    let not_above : nat_lt (number row) (number x) ≡ false = grind (arith, nat_tests, here, same) in
+    rw (told x row, told row x, not_below, not_above) refl
+set_is_put {A} less number told row n (x ∷ xs) (suc place) rise at same =
+    let inside = at.inside in
+    let up : nat_lt (number x) (number (get_or xs place x)) ≡ true =
+    sym (told x (get_or xs place x)) ∙ All-at (λ y. less x y ≡ true) xs rise.0 place x (omega (arith, inside)) in
+    let there = at.same x in
+    let below : nat_lt (number x) (number row) ≡ true = grind (arith, nat_tests, up, there, same) in
+    rw (told x row, below)
+    (ap (λ (l : List A). x ∷ l)
+    (set_is_put less number told row n xs place rise.1
+    (record {
+      inside = omega (arith, inside);
+      same = at.same;
+      before = λ i d less_i. at.before (suc i) d (omega (arith, less_i));
+    }) same))
 
 -- rows with another at a place, without its number
 pub without-set : {A : Type 0} (number : A → ℕ) (n : ℕ) (xs : List A) (place : ℕ) (x : A) → number x ≡ n

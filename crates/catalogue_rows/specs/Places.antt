@@ -1,11 +1,12 @@
 -- Albums with their tallies, of which one changes.
-use Rattle.std.specs.Prelude.{◌≡◌, ◌<◌, ◌≤◌, ◌==◌, ℕ, List, length, map, Option, IfSome, if◌then◌else◌, vec_len, vec_capacity}
+use Rattle.std.specs.Prelude.{◌≡◌, ◌<◌, ◌≤◌, ◌==◌, ℕ, List, length, map, Option, None, Some, IfSome, if◌then◌else◌, Vec, vec_len, vec_capacity}
 use Rattle.std.specs.List.{AllByRecursion}
 use Rattle.lib_base.specs.declared.files.Measured.{Measured}
 use Rattle.keeper_store.specs.declared.contents.Tables.{Tables}
 use Rattle.keeper_store.specs.Changes.{next_numbers}
 use Rattle.keeper_store.specs.Puts.{without, recording_id}
 use Rattle.album_merge.specs.Members.{IsAlbumOf, with_recording, without_recording}
+use Rattle.album_merge.specs.Tallies.{Tallied, StandsForMeasured}
 use Rattle.kept_replies.specs.Holding as replies
 use Rattle.library_model.specs.declared.limits.TheConstants.{MOST_MEMBERS}
 use Rattle.library_model.specs.RowRules.{is_in_album}
@@ -52,8 +53,14 @@ pub record HoldsBut (rows : CatalogueRows) (id : ℕ) (t : Tables) : Type 0 wher
   pub in_albums : AreMembersOf (album_of t (without recording_id id t.recordings)) rows.albums.items
   pub beside : AllByRecursion (IsBeside t) (without kept_recording_id id rows.recordings.items)
 
--- the album of the recording of this id, if it is in one, has a place for it beside those that are told
+-- the albums have the places that are told, and that of the recording of this id, if it is in one, has one more for it
 abbrev pub HasHome : CatalogueRows → ℕ → (ℕ → ℕ) → Type 0
 HasHome rows id more =
-    AllByRecursion (λ (kept : KeptRecording). kept.row.id ≡ id → HavePlaces (and_one kept.row.album more) rows.albums.items)
+    HavePlaces more rows.albums.items
+    × AllByRecursion (λ (kept : KeptRecording). kept.row.id ≡ id → HavePlaces (and_one kept.row.album more) rows.albums.items)
     rows.recordings.items
+
+-- a tally that stands for what is measured
+abbrev pub IsTallyOf : Option Tallied → Measured → Type 0
+IsTallyOf None measured = ⊥
+IsTallyOf (Some tally) measured = StandsForMeasured tally measured

@@ -12,7 +12,7 @@ use crate::kept::{KeptAlbum, KeptRecording};
 use crate::tallies::place_in;
 use crate::{CatalogueRows, Fresh};
 use album_merge::{Album, TrackTally};
-use keeper_store::{AlbumRow, Change, RecordingRow, drop_row, find_place, put_row};
+use keeper_store::{AlbumRow, Change, RecordingRow, ReplyRow, drop_row, find_place, put_row};
 
 /// None of these takes memory. Segments are not kept, so a change of them changes nothing here.
 impl CatalogueRows {
@@ -34,31 +34,70 @@ impl CatalogueRows {
         ensures left { result ≡ left_of change fresh }
         ensures room { (changes : List Made) → HasRoomFor self.old fresh (change ∷ changes) → HasRoomFor self.new result changes }
     {
-        let Fresh { tally, album } = fresh;
         match change {
+            Change::PutAlbum(row) => {
+                let Fresh { tally, album } = fresh;
+                self.put_album(row, album);
+                Fresh { tally, album: None }
+            }
+            Change::PutRecording(row) => {
+                let Fresh { tally, album } = fresh;
+                self.put_recording(row, tally);
+                Fresh { tally: None, album }
+            }
             Change::Counters {
                 next_album,
                 next_recording,
                 next_take,
             } => {
-                self.next_album = next_album;
-                self.next_recording = next_recording;
-                self.next_take = next_take;
+                self.set_numbers(next_album, next_recording, next_take);
+                fresh
             }
-            Change::PutAlbum(row) => {
-                self.put_album(row, album);
-                return Fresh { tally, album: None };
+            Change::PutReply(row) => {
+                self.put_reply(row);
+                fresh
             }
-            Change::PutRecording(row) => {
-                self.put_recording(row, tally);
-                return Fresh { tally: None, album };
+            Change::DropAlbum { id } => {
+                self.drop_album(id);
+                fresh
             }
-            Change::PutReply(row) => self.replies.put(row),
-            Change::DropAlbum { id } => drop_row(&mut self.albums, id),
-            Change::DropRecording { id } => self.drop_recording(id),
-            Change::PutSegments(_) | Change::DropSegments { .. } => (),
+            Change::DropRecording { id } => {
+                self.drop_recording(id);
+                fresh
+            }
+            Change::PutSegments(_) => fresh,
+            Change::DropSegments { .. } => fresh,
         }
-        Fresh { tally, album }
+    }
+
+    /// Sets the counters.
+    fn set_numbers(&mut self, album: u32, recording: u32, take: u32)
+        ensures held { (t : Tables) → Holds self.old t → Holds self.new (changed (change.Counters album recording take) t) }
+        ensures room { (more : ℕ) → HasRoom self.old more → HasRoom self.new more }
+        ensures places { (more : ℕ → ℕ) → HasPlaces self.old more → HasPlaces self.new more }
+    {
+        self.next_album = album;
+        self.next_recording = recording;
+        self.next_take = take;
+    }
+
+    /// Puts a kept reply, over one under its token.
+    fn put_reply(&mut self, row: ReplyRow)
+        requires { HasRoom self.old 1 }
+        ensures held { (t : Tables) → Holds self.old t → Holds self.new (changed (change.PutReply row) t) }
+        ensures room { (more : ℕ) → HasRoom self.old (more + 1) → HasRoom self.new more }
+        ensures places { (more : ℕ → ℕ) → HasPlaces self.old more → HasPlaces self.new more }
+    {
+        self.replies.put(row);
+    }
+
+    /// Takes out an album. Where there is none of the id, nothing changes.
+    fn drop_album(&mut self, id: u32)
+        ensures held { (t : Tables) → Holds self.old t → Holds self.new (changed (change.DropAlbum id) t) }
+        ensures room { (more : ℕ) → HasRoom self.old more → HasRoom self.new more }
+        ensures places { (more : ℕ → ℕ) → HasPlaces self.old more → HasPlaces self.new more }
+    {
+        drop_row(&mut self.albums, id);
     }
 
     /// Puts an album's row over that of its id, or with a new album of no recording.
@@ -85,14 +124,8 @@ impl CatalogueRows {
         ensures places { (more : ℕ → ℕ) → HasPlaces self.old (and_one row.album more) → HasPlaces self.new more }
     {
         let own = self.lift(row.id);
-        let beside = match tally.or(own) {
-            Some(tally) => place_in(&mut self.albums, row.album, row.id, tally),
-            None => None,
-        };
-        put_row(
-            &mut self.recordings,
-            KeptRecording { row, tally: beside },
-        );
+        let beside = place_in(&mut self.albums, row.album, row.id, tally.or(own));
+        put_row(&mut self.recordings, KeptRecording { row, tally: beside });
     }
 
     /// Takes out a recording, and its tally. Where there is none of the id, nothing changes.

@@ -22,6 +22,8 @@ impl CatalogueRows {
         ensures numbers { numbers_of self.new ≡ numbers_of self.old }
         ensures room { KeepsRoom self.old self.new }
         ensures home { IfSome result (λ _. (more : ℕ → ℕ) → HasPlaces self.old more → HasHome self.new id more) }
+        ensures there { IfSome result (λ _. (t : Tables) → Holds self.old t
+            → is_some (find (λ (r : RecordingRow). r.id == id) t.recordings) ≡ true) }
         ensures tally { IfSome result (λ tally. (t : Tables) (row : RecordingRow) → Holds self.old t
             → find (λ (r : RecordingRow). r.id == id) t.recordings ≡ Some row → StandsForMeasured tally (measured_in t row)) }
         ensures few { IfSome result (λ _. (t : Tables) (row : RecordingRow) → Holds self.old t
@@ -53,6 +55,6 @@ impl CatalogueRows {
             return;
         };
         let album = self.recordings[place].row.album;
-        self.recordings[place].tally = place_in(&mut self.albums, album, id, tally);
+        self.recordings[place].tally = place_in(&mut self.albums, album, id, Some(tally));
     }
 }

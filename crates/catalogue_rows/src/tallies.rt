@@ -8,7 +8,7 @@ ghost use Rattle.album_merge.specs.Tallies.{StandsForMeasured};
 ghost use Rattle.library_model.specs.RowRules.{has_album};
 ghost use Rattle.catalogue_rows.specs.Holding.{HasOwn, album_row};
 ghost use Rattle.catalogue_rows.specs.KeptOrders.{kept_album_less};
-ghost use Rattle.catalogue_rows.specs.Places.{AreKept, AreMembersOf, HavePlaces, IsFewIn, with_over, without_one};
+ghost use Rattle.catalogue_rows.specs.Places.{AreKept, AreMembersOf, HavePlaces, IsFewIn, IsTallyOf, with_over, without_one};
 ghost use Rattle.catalogue_rows.specs.Room.{and_one, one_in};
 
 use crate::kept::KeptAlbum;
@@ -26,6 +26,7 @@ pub(crate) fn take_from(albums: &mut Vec<KeptAlbum>, album: u32, id: u32) -> Opt
     ensures members { (of : ℕ → List (ℕ × Measured)) → AreMembersOf of albums.old.items
         → AreMembersOf (without_one album id of) albums.new.items }
     ensures missing { IfNone result (albums.new.items ≡ albums.old.items) }
+    ensures places { (more : ℕ → ℕ) → HavePlaces more albums.old.items → HavePlaces more albums.new.items }
     ensures place { IfSome result (λ _. (more : ℕ → ℕ) → HavePlaces more albums.old.items → HavePlaces (and_one (Some album) more) albums.new.items) }
     ensures few { IfSome result (λ _. (of : ℕ → List (ℕ × Measured)) → AreMembersOf of albums.old.items
         → IsFewIn (Some album) id of) }
@@ -56,22 +57,26 @@ pub(crate) fn put_into(albums: &mut Vec<KeptAlbum>, album: u32, id: u32, tally: 
     }
 }
 
-/// Puts the tally of a recording into the album that is named, or gives it back where none is.
+/// Puts the tally of a recording, where there is one, into the album that is named, or gives it back
+/// where none is.
 pub(crate) fn place_in(
     albums: &mut Vec<KeptAlbum>,
     album: Option<u32>,
     id: u32,
-    tally: TrackTally,
+    tally: Option<TrackTally>,
 ) -> Option<TrackTally>
     requires ascend { Ascends kept_album_less albums.old.items }
     requires place { HavePlaces (one_in album) albums.old.items }
     ensures kept { AreKept albums.old albums.new }
     ensures ascend { Ascends kept_album_less albums.new.items }
-    ensures own { (measured : Measured) → StandsForMeasured tally measured → HasOwn album result measured }
+    ensures own { (measured : Measured) → IsTallyOf tally measured → HasOwn album result measured }
     ensures members { (of : ℕ → List (ℕ × Measured)) (measured : Measured) → AreMembersOf of albums.old.items
-        → StandsForMeasured tally measured → IsFewIn album id of → AreMembersOf (with_over album id measured of) albums.new.items }
+        → IsTallyOf tally measured → IsFewIn album id of → AreMembersOf (with_over album id measured of) albums.new.items }
     ensures places { (more : ℕ → ℕ) → HavePlaces (and_one album more) albums.old.items → HavePlaces more albums.new.items }
 {
+    let Some(tally) = tally else {
+        return None;
+    };
     match album {
         Some(album) => {
             put_into(albums, album, id, tally);

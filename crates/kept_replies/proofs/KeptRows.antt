@@ -1,5 +1,5 @@
 -- Kept replies of rows.
-use Rattle.std.proofs.Common.{◌≡◌, ℕ, true, List, [], ◌∷◌, map, refl, sym, ap, ◌∙◌}
+use Rattle.std.proofs.Common.{◌≡◌, ℕ, true, Option, None, Some, List, [], ◌∷◌, map, refl, sym, ap, ◌∙◌}
 use Rattle.std.specs.List.{AllByRecursion, find}
 use Rattle.std.specs.Option.{option_map}
 use Rattle.std.specs.Str.{bytes_eq}
@@ -7,6 +7,8 @@ use Rattle.keeper_store.specs.declared.row_types.ReplyRow.{ReplyRow}
 use Rattle.keeper_store.specs.Puts.{Ascends, put, reply_less}
 use Rattle.keeper_store.proofs.Putting.{map-put}
 use Rattle.kept_replies.specs.declared.replies.KeptReply.{KeptReply}
+use Rattle.kept_replies.specs.declared.keeping.KeptReplies.{KeptReplies}
+use Rattle.kept_replies.specs.Holding.{Holds, IsFresh}
 use Rattle.kept_replies.specs.Orders.{kept_less}
 use Rattle.kept_replies.specs.Rows.{kept_of}
 use Rattle.kept_replies.proofs.Finding.{find_kept}
@@ -34,3 +36,18 @@ pub find_held : (token : List ℕ) (replies : List KeptReply) (rows : List Reply
     ≡ option_map kept_of (find (λ (row : ReplyRow). bytes_eq row.token token) rows)
 find_held token replies rows holds =
     ap (find (λ (k : KeptReply). bytes_eq k.token token)) holds ∙ find_kept token rows
+
+-- Where nothing is kept under a token, no row has it.
+pub fresh_held : (token : List ℕ) (kept : KeptReplies) (rows : List ReplyRow) → Holds kept rows → IsFresh kept token
+    → find (λ (row : ReplyRow). bytes_eq row.token token) rows ≡ None
+fresh_held token kept rows holds fresh =
+    none (find (λ (row : ReplyRow). bytes_eq row.token token) rows) (sym (find_held token kept.replies.items rows holds) ∙ fresh)
+  where
+    none : (found : Option ReplyRow) → option_map kept_of found ≡ None → found ≡ None
+    none None is = refl
+    none (Some row) is = absurd (cc is)
+
+-- Where no row has the token, nothing is kept under it.
+pub held_fresh : (token : List ℕ) (kept : KeptReplies) (rows : List ReplyRow) → Holds kept rows
+    → find (λ (row : ReplyRow). bytes_eq row.token token) rows ≡ None → IsFresh kept token
+held_fresh token kept rows holds none = find_held token kept.replies.items rows holds ∙ ap (option_map kept_of) none
