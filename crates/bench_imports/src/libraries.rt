@@ -1,8 +1,13 @@
 //! A library in memory, into which waves are imported.
-use catalogue_core::{Library, Staged, ask, commit, stage};
+ghost use Rattle.std.specs.Prelude.{IfOk, IfSome};
+ghost use Rattle.library_model.specs.Stands.{BringsWithin};
+
+use catalogue_core::{
+    Command, Library, Question, Request, Seen, Staged, Token, ask, commit, stage,
+};
 use keeper_store::{MemKeeper, MemVault, Tables};
-use lib_base::{Bytes, Memory, Steps};
-use library_model::{Command, Question, Request};
+use lib_base::{Bytes, Memory, Steps, Text};
+use library_model::limits::MOST_BODY_BYTES;
 use measure_pool::OpenGate;
 use std::alloc::Global;
 use std::marker::Sync;
@@ -18,6 +23,9 @@ pub struct Opened {
 }
 
 impl Opened {
+    ghost use Rattle.kept_replies.specs.Tokens.{text_of};
+    ghost use Rattle.catalogue_core.specs.Kept.{IsFresh};
+
     /// A library that is opened over empty tables.
     pub fn new<R: Threads + Sync>(rt: &R, alloc: Global) -> Result<Opened, Memory> {
         let mut keeper = MemKeeper::new(Tables::empty(alloc), Vec::new(alloc));
@@ -31,19 +39,45 @@ impl Opened {
         })
     }
 
-    /// Imports a file by one worker: whether it was accepted.
+    /// Imports a file by one worker, under a token of that number: whether it was accepted.
     pub fn import<R: Threads + Sync, L: Ledger>(
         &mut self,
         rt: &R,
         alloc: Global,
         file: &[u8],
+        number: u32,
         steps: &mut Steps<L>,
     ) -> Result<bool, Memory> {
-        let request = Request {
-            command: Command::Import {
-                bytes: Bytes::copy(alloc, file)?,
-            },
+        let text = format!(in alloc; "{number}")?;
+        let Some(token) = Token::of(alloc, text.as_bytes())? else {
+            return Ok(false);
         };
+        let Some(command) = import_of(alloc, file)? else {
+            return Ok(false);
+        };
+        match self.library.seen(&token, &[0; 16]) {
+            Seen::Fresh => {
+                let request = Request {
+                    token,
+                    mark: [0; 16],
+                    command,
+                };
+                self.make(rt, request, steps)
+            }
+            _ => Ok(false),
+        }
+    }
+
+    /// Stages and commits an import: whether it was accepted.
+    fn make<R: Threads + Sync, L: Ledger>(
+        &mut self,
+        rt: &R,
+        request: Request,
+        steps: &mut Steps<L>,
+    ) -> Result<bool, Memory>
+        requires fresh { IsFresh self.old.library (text_of request.token) }
+        requires within { BringsWithin request.command }
+    {
         let staged = stage(
             rt,
             &mut self.library,
@@ -85,4 +119,18 @@ impl Opened {
         }
         Ok(found)
     }
+}
+
+/// The import of a file in no album, without a name, where the file is within the body limit.
+fn import_of(alloc: Global, file: &[u8]) -> Result<Option<Command>, Memory>
+    ensures { IfOk result (λ command. IfSome command BringsWithin) }
+{
+    if file.len() as u64 > MOST_BODY_BYTES {
+        return Ok(None);
+    }
+    Ok(Some(Command::Import {
+        album: None,
+        name: Text::of(String::new(alloc)),
+        bytes: Bytes::copy(alloc, file)?,
+    }))
 }

@@ -89,8 +89,8 @@ fn imports<R: Threads + Sync, L: Ledger>(
     let mut steps: Steps<L> = Steps::new(blank);
     let mut opened = Opened::new(rt, alloc)?;
     let mut accepted = 0u64;
-    for _ in 0..times {
-        if opened.import(rt, alloc, file, &mut steps)? {
+    for number in 0..times {
+        if opened.import(rt, alloc, file, number, &mut steps)? {
             accepted = accepted.wrapping_add(1);
         }
     }
