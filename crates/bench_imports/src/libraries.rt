@@ -1,23 +1,18 @@
 //! A library in memory, into which waves are imported.
-ghost use Rattle.std.specs.Prelude.{◌≡◌, IfOk, IfSome, true};
-ghost use Rattle.kept_replies.specs.Tokens.{text_of};
+ghost use Rattle.std.specs.Prelude.{IfOk, IfSome};
 ghost use Rattle.library_model.specs.Stands.{BringsWithin};
-ghost use Rattle.catalogue_core.specs.Kept.{IsFresh};
 
-use catalogue_core::{Library, Request, Seen, Staged, Token, ask, commit, stage};
-use json_bodies::is_name;
+use catalogue_core::{
+    Command, Library, Question, Request, Seen, Staged, Token, ask, commit, stage,
+};
 use keeper_store::{MemKeeper, MemVault, Tables};
 use lib_base::{Bytes, Memory, Steps, Text};
 use library_model::limits::MOST_BODY_BYTES;
-use library_model::{Command, Question};
 use measure_pool::OpenGate;
 use std::alloc::Global;
 use std::marker::Sync;
 use std::sync::ledger::Ledger;
 use std::thread::Threads;
-
-/// The mark of each import, since each has a token of its own.
-const MARK: [u8; 16] = [0; 16];
 
 /// A library with its keeper and vault, which never fail.
 #[derive(Drop)]
@@ -28,6 +23,9 @@ pub struct Opened {
 }
 
 impl Opened {
+    ghost use Rattle.kept_replies.specs.Tokens.{text_of};
+    ghost use Rattle.catalogue_core.specs.Kept.{IsFresh};
+
     /// A library that is opened over empty tables.
     pub fn new<R: Threads + Sync>(rt: &R, alloc: Global) -> Result<Opened, Memory> {
         let mut keeper = MemKeeper::new(Tables::empty(alloc), Vec::new(alloc));
@@ -41,7 +39,7 @@ impl Opened {
         })
     }
 
-    /// Imports a file by one worker, under a token made of a number: whether it was accepted.
+    /// Imports a file by one worker, under a token of that number: whether it was accepted.
     pub fn import<R: Threads + Sync, L: Ledger>(
         &mut self,
         rt: &R,
@@ -50,24 +48,27 @@ impl Opened {
         number: u32,
         steps: &mut Steps<L>,
     ) -> Result<bool, Memory> {
-        let text = format!(alloc; "{number}")?;
+        let text = format!(in alloc; "{number}")?;
         let Some(token) = Token::of(alloc, text.as_bytes())? else {
             return Ok(false);
         };
         let Some(command) = import_of(alloc, file)? else {
             return Ok(false);
         };
-        if !is_fresh(&self.library, &token) {
-            return Ok(false);
+        match self.library.seen(&token, &[0; 16]) {
+            Seen::Fresh => {
+                let request = Request {
+                    token,
+                    mark: [0; 16],
+                    command,
+                };
+                self.make(rt, request, steps)
+            }
+            _ => Ok(false),
         }
-        let request = Request {
-            token,
-            mark: MARK,
-            command,
-        };
-        self.make(rt, request, steps)
     }
 
+    /// Stages and commits an import: whether it was accepted.
     fn make<R: Threads + Sync, L: Ledger>(
         &mut self,
         rt: &R,
@@ -77,7 +78,7 @@ impl Opened {
         requires fresh { IsFresh self.old.library (text_of request.token) }
         requires within { BringsWithin request.command }
     {
-        match stage(
+        let staged = stage(
             rt,
             &mut self.library,
             request,
@@ -85,7 +86,8 @@ impl Opened {
             1,
             &OpenGate,
             steps,
-        )? {
+        )?;
+        match staged {
             Staged::Refused(_) => Ok(false),
             Staged::Ready(ready) => {
                 let reply = commit(&mut self.library, ready, &mut self.keeper);
@@ -119,28 +121,16 @@ impl Opened {
     }
 }
 
-/// Whether nothing is kept under the token.
-fn is_fresh(library: &Library, token: &Token) -> bool
-    ensures { result ≡ true → IsFresh library.now (text_of token.now) }
-{
-    match library.seen(token, &MARK) {
-        Seen::Fresh => true,
-        _ => false,
-    }
-}
-
-/// The import of a file into no album, with no name.
+/// The import of a file in no album, without a name, where the file is within the body limit.
 fn import_of(alloc: Global, file: &[u8]) -> Result<Option<Command>, Memory>
     ensures { IfOk result (λ command. IfSome command BringsWithin) }
 {
-    if !is_name(b"".as_slice()) || file.len() as u64 > MOST_BODY_BYTES {
+    if file.len() as u64 > MOST_BODY_BYTES {
         return Ok(None);
     }
-    let name = Text::of(String::from_str(alloc, "")?);
-    let bytes = Bytes::copy(alloc, file)?;
     Ok(Some(Command::Import {
         album: None,
-        name,
-        bytes,
+        name: Text::of(String::new(alloc)),
+        bytes: Bytes::copy(alloc, file)?,
     }))
 }
