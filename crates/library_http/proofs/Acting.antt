@@ -58,10 +58,6 @@ rose_as : (b : Bool) (before now : ℕ) → (b ≡ true → Rose before now) →
 rose_as true before now rose later = let h : Rose before now = rose refl in omega arith
 rose_as false before now rose later = omega arith
 
--- a number that is one is not another
-differs_from : (m n k : ℕ) → m ≡ n → n ≢ k → m ≢ k
-differs_from m n k is differs e = differs (sym is ∙ e)
-
 -- what a request's reply counts, where the vault's count goes on, and the keeper's
 pub record CountsOne (reply : Reply) (before now : World) : Type 0 where
   pub vault : RoseBy (counted (status_of cause.Vault) reply + 0) before.vault.faults now.vault.faults

@@ -54,10 +54,6 @@ Appends-part_only a b c xs text p q = (q.0, q.1, q.2, q.3, Appends-trans a b c x
 
 -- ---- counts
 
--- A count rose by so many, and then by so many more.
-pub RoseBy-then : (a b x y z : ℕ) → RoseBy a x y → RoseBy b y z → RoseBy (a + b) x z
-RoseBy-then a b x y z p q = omega arith
-
 -- A count that did not fall rose by none.
 pub RoseBy-none : (a x y : ℕ) → a ≡ 0 → x ≤ y → RoseBy a x y
 RoseBy-none a x y none later = omega arith
