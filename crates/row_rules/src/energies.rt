@@ -19,7 +19,7 @@ pub(crate) fn are_energies_of(frames: u64, bytes: &[u8]) -> bool
     if !are_energies(pieces) {
         return false;
     }
-    pieces.len() as u64 == frames / SEGMENT_FRAMES as u64 as u64 as u64
+    pieces.len() as u64 == frames / SEGMENT_FRAMES as u64
 }
 
 fn are_energies(pieces: &[[u8; 11]]) -> bool
