@@ -16,6 +16,7 @@ use std::{env, io};
 
 /// The database, beside the folder of the files that were taken in.
 const DATABASE: &str = "library.db";
+
 const TAKES: &str = "takes";
 
 /// The port of 127.0.0.1 at which connections come in.

@@ -58,7 +58,10 @@ pub fn run<R: Threads + Sync>(rt: &HostRuntime, threads: &R) -> io::Result<()> {
         rt,
         listener: TcpListener::bind(rt, (Ipv4Addr::LOCALHOST, 0))?,
     };
-    let asks = peer(&system, b"GET /recordings/9 HTTP/1.1\r\nConnection: close\r\n\r\n")?;
+    let asks = peer(
+        &system,
+        b"GET /recordings/9 HTTP/1.1\r\nConnection: close\r\n\r\n",
+    )?;
     let sends = peer(&system, b"PUT /recordings/9/audio HTTP/1.1\r\n\r\n")?;
     serve(rt, threads, &system)?;
     tell_reply(rt, asks)?;
@@ -74,11 +77,7 @@ fn peer(system: &Bound<'_>, request: &[u8]) -> io::Result<TcpStream> {
 }
 
 /// Serves both over a library in memory, and tells the lines and the status.
-fn serve<R: Threads + Sync>(
-    rt: &HostRuntime,
-    threads: &R,
-    system: &Bound<'_>,
-) -> io::Result<()> {
+fn serve<R: Threads + Sync>(rt: &HostRuntime, threads: &R, system: &Bound<'_>) -> io::Result<()> {
     let alloc = rt.alloc();
     let words = words(alloc)?;
     let mut sink = MemSink::new(alloc, Vec::new(alloc));

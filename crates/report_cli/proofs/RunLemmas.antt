@@ -200,9 +200,9 @@ session_status : (n : ℕ) (h : How) (count m : ℕ) (workers : ℕ) (tables : T
     → m ≢ code status.Memory → IsFixedOver (command.Session workers n) before.source.left tables m
 session_status n h count m workers tables library before now ran is source sink memory =
     for_left before.source.left _ (λ input told s valid rows.
-        let session = ran.session s valid rows in
-        ended_status h n count before.source.left now.source.left input session.taken session.exchanges before.sink.written now.sink.written m
-        is source sink memory told session.content session.ends)
+    let session = ran.session s valid rows in
+    ended_status h n count before.source.left now.source.left input session.taken session.exchanges before.sink.written now.sink.written m
+    is source sink memory told session.content session.ends)
 
 -- memory was wanting, or not
 wanting : (h : How) (m : ℕ) (P : Type 0) → m ≡ code (status_of h) → (m ≢ code status.Memory → P) → (m ≡ code status.Memory) ⊎ P
@@ -254,11 +254,11 @@ fixed_status (not_opened (refusal.BadRow bad)) words before now m runs source si
     ]
 fixed_status (answered h count) words before now m (workers, n, is, opened, end) source sink keeper door =
     wanting h m _ end (λ memory.
-        let same = ap (λ (v : _). v.left) opened.opens.source in
-        let fixed = session_status n h count m workers opened.is_opened.tables opened.library opened.opened now opened.ran end source sink memory in
-        let at_first = subst (λ l. IsFixedOver (command.Session workers n) l opened.is_opened.tables m) same fixed in
-        subst (λ o. IsFixed o before.source.left before.keeper.tables m) (sym is)
-        (of_loaded before.keeper.tables _ opened.is_opened.tables opened.is_opened.loaded (inr (opened.is_opened.unbroken, at_first))))
+    let same = ap (λ (v : _). v.left) opened.opens.source in
+    let fixed = session_status n h count m workers opened.is_opened.tables opened.library opened.opened now opened.ran end source sink memory in
+    let at_first = subst (λ l. IsFixedOver (command.Session workers n) l opened.is_opened.tables m) same fixed in
+    subst (λ o. IsFixed o before.source.left before.keeper.tables m) (sym is)
+    (of_loaded before.keeper.tables _ opened.is_opened.tables opened.is_opened.loaded (inr (opened.is_opened.unbroken, at_first))))
 fixed_status (served end connections) words before now m (count, workers, n, is, opened, end_is) source sink keeper door =
     elim (serving_status end count connections opened.opened.sink.written now.sink.written m opened.ran.lines end_is sink door) [
       | inl memory ↦ inl memory

@@ -80,7 +80,9 @@ fn run_command<R: Threads + Sync, S: Source, K: Sink, D: Keeper, V: Vault, O: Do
     ensures bad_row_cause { result ≡ Status.BadRow → IfSome (D.shown keeper.old).tables HasBadRow }
 {
     match Library::open(rt, alloc, keeper) {
-        Ok(library) => carry_out(rt, alloc, command, library, source, sink, keeper, vault, door),
+        Ok(library) => carry_out(
+            rt, alloc, command, library, source, sink, keeper, vault, door,
+        ),
         Err(OpenRefusal::KeeperFault) => Status::KeeperFault,
         Err(OpenRefusal::BadRow(bad)) => print_bad_row(alloc, bad, sink),
         Err(OpenRefusal::Memory) => Status::Memory,

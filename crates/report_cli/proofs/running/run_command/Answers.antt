@@ -56,21 +56,21 @@ pub returns-in-Err-BadRow-clause-runs : goal.returns-in-Err-BadRow-clause-runs
 returns-in-Err-BadRow-clause-runs g c = λ words is.
     let P : BadRow → Type 0 = λ bad. Prints (bad_row_line bad) status.BadRow (g.K.Sink.shown c.args.sink.now)
     (g.K.Sink.shown c.print_bad_row.new.sink) (code c.print_bad_row.result) in (
-  not_opened (refusal.BadRow c.in-Err-BadRow.bad),
-  (
-    subst IsSome (sym is) refl,
-    record {
-      source = refl;
-      tables = c.open.ensures.tables;
-      faults = c.open.ensures.faults.later;
-      applies = c.open.ensures.applies;
-      vault = refl;
-      door = refl;
-    },
-    bad_opened _ _ _ c.in-Err-BadRow.field-0-is c.in-Err-BadRow.ensures.opens,
-    subst P c.in-Err-BadRow.bad-is c.print_bad_row.ensures.prints,
-  ),
-)
+      not_opened (refusal.BadRow c.in-Err-BadRow.bad),
+      (
+        subst IsSome (sym is) refl,
+        record {
+          source = refl;
+          tables = c.open.ensures.tables;
+          faults = c.open.ensures.faults.later;
+          applies = c.open.ensures.applies;
+          vault = refl;
+          door = refl;
+        },
+        bad_opened _ _ _ c.in-Err-BadRow.field-0-is c.in-Err-BadRow.ensures.opens,
+        subst P c.in-Err-BadRow.bad-is c.print_bad_row.ensures.prints,
+      ),
+    )
 
 pub returns-in-Err-Memory-clause-runs : goal.returns-in-Err-Memory-clause-runs
 returns-in-Err-Memory-clause-runs g c = λ words is. (
