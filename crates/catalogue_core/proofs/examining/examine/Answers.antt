@@ -4,8 +4,8 @@ use Rattle.tag_writer.proofs.Listening.{accepted_reads}
 use Rattle.catalogue_core.proofs.AcceptedBounds.{accepted_within}
 use Rattle.catalogue_core.proofs.examining.examine.Goals as goal
 
-pub make-requires : goal.make-requires
-make-requires g c =
+pub make-requires-after_bounds : goal.make-requires-after_bounds
+make-requires-after_bounds g c κs sync =
     let found = accepted_reads c.args.file.now c.in-Ok.accepted c.in-Ok.ensures.ok in
     subst IsWithinBounds (sym (c.in_ok-measured-in-Ok.ensures found.0 found.1))
     (accepted_within c.args.file.now found.0 found.1 c.requires.within)
