@@ -24,8 +24,8 @@ returns-in-Session-clause-carries g c = λ told opened.
       c.of_session.ensures,
     )
 
-pub returns-in-Serve-clause-carries : goal.returns-in-Serve-clause-carries
-returns-in-Serve-clause-carries g c = λ told opened.
+pub returns-clause-carries : goal.returns-clause-carries
+returns-clause-carries g c = λ told opened.
     let P : Command → Type 0 = λ done. CarriesOut done c.serve.result opened.tables c.args.library
     (seen (g.S.Source.shown c.args.source.now) (g.K.Sink.shown c.args.sink.now) (g.D.Keeper.shown c.args.keeper.now)
     (g.V.Vault.shown c.args.vault.now) (g.O.Door.shown c.args.door.now))
