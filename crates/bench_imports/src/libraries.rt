@@ -1,6 +1,8 @@
 //! A library in memory, into which waves are imported.
-ghost use Rattle.std.specs.Prelude.{IfOk, IfSome};
+ghost use Rattle.std.specs.Prelude.{◌≡◌, true, IfOk, IfSome};
+ghost use Rattle.kept_replies.specs.Tokens.{text_of};
 ghost use Rattle.library_model.specs.Stands.{BringsWithin};
+ghost use Rattle.catalogue_core.specs.Kept.{IsFresh};
 
 use catalogue_core::{
     Command, Library, Question, Request, Seen, Staged, Token, ask, commit, stage,
@@ -14,6 +16,9 @@ use std::marker::Sync;
 use std::sync::ledger::Ledger;
 use std::thread::Threads;
 
+/// The mark of each import, since each has a token of its own.
+const MARK: [u8; 16] = [0; 16];
+
 /// A library with its keeper and vault, which never fail.
 #[derive(Drop)]
 pub struct Opened {
@@ -23,9 +28,6 @@ pub struct Opened {
 }
 
 impl Opened {
-    ghost use Rattle.kept_replies.specs.Tokens.{text_of};
-    ghost use Rattle.catalogue_core.specs.Kept.{IsFresh};
-
     /// A library that is opened over empty tables.
     pub fn new<R: Threads + Sync>(rt: &R, alloc: Global) -> Result<Opened, Memory> {
         let mut keeper = MemKeeper::new(Tables::empty(alloc), Vec::new(alloc));
@@ -55,17 +57,15 @@ impl Opened {
         let Some(command) = import_of(alloc, file)? else {
             return Ok(false);
         };
-        match self.library.seen(&token, &[0; 16]) {
-            Seen::Fresh => {
-                let request = Request {
-                    token,
-                    mark: [0; 16],
-                    command,
-                };
-                self.make(rt, request, steps)
-            }
-            _ => Ok(false),
+        if !is_fresh(&self.library, &token) {
+            return Ok(false);
         }
+        let request = Request {
+            token,
+            mark: MARK,
+            command,
+        };
+        self.make(rt, request, steps)
     }
 
     /// Stages and commits an import: whether it was accepted.
@@ -133,4 +133,15 @@ fn import_of(alloc: Global, file: &[u8]) -> Result<Option<Command>, Memory>
         name: Text::of(String::new(alloc)),
         bytes: Bytes::copy(alloc, file)?,
     }))
+}
+
+/// Whether nothing is kept under the token.
+fn is_fresh(library: &Library, token: &Token) -> bool
+    ensures { result ≡ true → IsFresh library.now (text_of token.now) }
+{
+    match library.seen(token, &MARK) {
+        Seen::Fresh => true,
+        Seen::Kept(_) => false,
+        Seen::Other => false,
+    }
 }

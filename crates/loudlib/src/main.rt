@@ -49,7 +49,7 @@ fn path(alloc: Global, letters: &str) -> Result<Text, Memory> {
 }
 
 /// What a run begins with.
-fn start<R: Env + AllocGlobal>(rt: &R, alloc: Global) -> Result<Start, Memory> {
+fn prepare<R: Env + AllocGlobal>(rt: &R, alloc: Global) -> Result<Start, Memory> {
     Ok(Start {
         words: words(rt, alloc)?,
         database: path(alloc, DATABASE)?,
@@ -60,7 +60,7 @@ fn start<R: Env + AllocGlobal>(rt: &R, alloc: Global) -> Result<Start, Memory> {
 
 fn main(rt: HostRuntime) -> ExitCode {
     let alloc = rt.alloc();
-    let Ok(start) = start(&rt, alloc) else {
+    let Ok(start) = prepare(&rt, alloc) else {
         return ExitCode::from(Status::Memory.code());
     };
     let mut keeper = SqliteKeeper::at(&rt, alloc, start.database).beside(start.takes);
