@@ -1,12 +1,13 @@
 //! A library in memory, into which waves are imported.
-ghost use Rattle.std.specs.Prelude.{◌≡◌, true, IfOk, IfSome};
+ghost use Rattle.std.specs.Prelude.{◌≡◌, ◌≤◌, true, IfOk, IfSome};
 ghost use Rattle.kept_replies.specs.Tokens.{text_of};
-ghost use Rattle.library_model.specs.Stands.{BringsWithin};
+ghost use Rattle.library_model.specs.Stands.{BringsWithin, IsWithinLimit};
 ghost use Rattle.catalogue_core.specs.Kept.{IsFresh};
 
 use catalogue_core::{
     Command, Library, Question, Request, Seen, Staged, Token, ask, commit, stage,
 };
+use json_bodies::is_name;
 use keeper_store::{MemKeeper, MemVault, Tables};
 use lib_base::{Bytes, Memory, Steps, Text};
 use library_model::limits::MOST_BODY_BYTES;
@@ -125,13 +126,15 @@ impl Opened {
 fn import_of(alloc: Global, file: &[u8]) -> Result<Option<Command>, Memory>
     ensures { IfOk result (λ command. IfSome command BringsWithin) }
 {
-    if file.len() as u64 > MOST_BODY_BYTES {
+    if !is_name(b"".as_slice()) || file.len() as u64 > MOST_BODY_BYTES {
         return Ok(None);
     }
+    let name = Text::of(String::from_str(alloc, "")?);
+    let bytes = Bytes::copy(alloc, file)?;
     Ok(Some(Command::Import {
         album: None,
-        name: Text::of(String::new(alloc)),
-        bytes: Bytes::copy(alloc, file)?,
+        name,
+        bytes,
     }))
 }
 
