@@ -20,8 +20,8 @@ IsError status = 400 ≤ status
 
 -- no status of an error is kept
 pub error_unkept : (status : ℕ) → IsError status → ¬ IsKeptStatus status
-error_unkept status error (inl is) = absurd (omega (arith, error, is))
-error_unkept status error (inr is) = absurd (omega (arith, error, is))
+error_unkept status error (inl is) = let least : 400 ≤ status = error in absurd (omega (arith, least, is))
+error_unkept status error (inr is) = let least : 400 ≤ status = error in absurd (omega (arith, least, is))
 
 -- a verdict that leaves the state replies with an error
 abbrev StaysWithError : Verdict → Type 0
