@@ -17,6 +17,6 @@ pub record IsMeasuredOf (sound : Pcm) (m : Measured) (tally : Tallied) : Type 0 
   pub stands : StandsForMeasured tally m
 
 -- the file is accepted, with what is measured of its sound, or broken by that rule at that place
-abbrev pub IsFound : List ℕ → Examined → Type 0
-IsFound file (Accepted m tally) = (sound : Pcm) × Reads file (accepted sound) × IsMeasuredOf sound m tally
-IsFound file (Broken fault) = Reads file (broken fault.rule fault.place)
+abbrev pub IsExamined : List ℕ → Examined → Type 0
+IsExamined file (Accepted m tally) = (sound : Pcm) × Reads file (accepted sound) × IsMeasuredOf sound m tally
+IsExamined file (Broken fault) = Reads file (broken fault.rule fault.place)

@@ -7,7 +7,7 @@ ghost use Rattle.measure_pool.specs.declared.plans.TheConstants.{MOST_WORKERS};
 ghost use Rattle.tag_writer.specs.Answers.{IsAcceptedOf};
 ghost use Rattle.library_model.specs.Findings.{measured_of};
 ghost use Rattle.library_model.specs.Stands.{IsWithinLimit};
-ghost use Rattle.catalogue_core.specs.Examining.{IsFound};
+ghost use Rattle.catalogue_core.specs.Examining.{IsExamined};
 
 use album_merge::TrackTally;
 use lib_base::{Broken, Measured, Memory, Refused};
@@ -37,7 +37,7 @@ pub fn examine<R: Threads + Sync, G: Gate>(
     requires some { 1 ≤ workers }
     requires most { workers ≤ MOST_WORKERS }
     requires within { IsWithinLimit file.now }
-    ensures { IfOk result (λ found. IsFound file.now found) }
+    ensures { IfOk result (λ found. IsExamined file.now found) }
 {
     match accept(alloc, file) {
         Ok(accepted) => {

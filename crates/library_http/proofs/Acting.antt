@@ -35,7 +35,7 @@ use Rattle.catalogue_core.specs.Committing.{Commits, IsLeft, IsMade}
 use Rattle.catalogue_core.specs.Kept.{Holds, HoldsAgain, Keeps, numbers_of, takes_of}
 use Rattle.catalogue_core.specs.Staging.{Prepares, Stages}
 use Rattle.catalogue_core.specs.Sweeping.{Clears, Sweeps}
-use Rattle.library_http.specs.Acts.{Acts, IsSettled, Leads, OtherKeysKept, count_held, held}
+use Rattle.library_http.specs.Acts.{Acts, IsFaultless, Leads, OtherKeysKept, count_held, held}
 use Rattle.library_http.specs.World.{World, world, RoseBy}
 use Rattle.library_http.proofs.Goings.{Goes-same, Goes-then, Goes-weaker, Goes-both, RoseBy-none, RoseBy-one}
 
@@ -93,10 +93,10 @@ CountsOne-keeper w0 w1 vault_later rose = record {
 -- without a fault that was counted, an answer is the one that is decided, or memory was wanting
 settled_without_faults : (s : State) (asked : Asked) (reply : Reply) (next : State) (w0 w1 : World)
     → Answer s asked reply next → CountsOne reply w0 w1 → ¬ Rose w0.vault.faults w1.vault.faults
-    → ¬ Rose w0.keeper.faults w1.keeper.faults → IsSettled s asked reply next
+    → ¬ Rose w0.keeper.faults w1.keeper.faults → IsFaultless s asked reply next
 settled_without_faults s asked reply next w0 w1 answer counts vault keeper = by_way answer.way answer.answers
   where
-    by_way : (way : Way) → AnswersBy way s asked reply next → IsSettled s asked reply next
+    by_way : (way : Way) → AnswersBy way s asked reply next → IsFaultless s asked reply next
     by_way (as_decided verdict) answers = inl (verdict, answers)
     by_way without_memory answers = inr answers
     by_way (vault_failed verdict) answers =
@@ -109,11 +109,11 @@ settled_without_faults s asked reply next w0 w1 answer counts vault keeper = by_
         absurd (keeper (subst (λ (n : ℕ). RoseBy n w0.keeper.faults w1.keeper.faults) counted counts.keeper))
 
 -- what nothing refuses is granted then, or memory was wanting
-settled_grants : (s : State) (asked : Asked) (reply : Reply) (next : State) → IsSettled s asked reply next → IsGrantable s asked
+faultless_grants : (s : State) (asked : Asked) (reply : Reply) (next : State) → IsFaultless s asked reply next → IsGrantable s asked
     → IsKeptStatus reply.status ⊎ (reply ≡ refusal cause.Memory)
-settled_grants s asked reply next (inl (verdict, answers)) may =
+faultless_grants s asked reply next (inl (verdict, answers)) may =
     inl (subst (λ (r : Reply). IsKeptStatus r.status) (sym answers.1) (Decides-granted s asked verdict may answers.0))
-settled_grants s asked reply next (inr answers) may = inr answers.0
+faultless_grants s asked reply next (inr answers) may = inr answers.0
 
 -- ---- requests that change nothing
 
@@ -157,7 +157,7 @@ Acts-kept s asked reply w0 w1 keeps answer again others tables counts calls = re
   keys = Goes-weaker (OthersKept s.next_take) (OtherKeysKept s.next_take (taken_out s s))
       (λ old new kept key apart differs. kept key apart) w0.vault.blobs w1.vault.blobs others;
   complete = settled_without_faults s asked reply s w0 w1 answer counts;
-  granted = λ vault keeper may. settled_grants s asked reply s (settled_without_faults s asked reply s w0 w1 answer counts vault keeper) may;
+  granted = λ vault keeper may. faultless_grants s asked reply s (settled_without_faults s asked reply s w0 w1 answer counts vault keeper) may;
 }
 
 -- One that touches nothing at all.
@@ -393,7 +393,7 @@ Acts-made s token mark wanted p reply r lib0 lib1 lib2 lib3 k0 k2 v0 v1 v3 keeps
           swept key (subst (λ (takes : List ℕ). AllByRecursion (λ take. key ≢ take) takes) prepares.released_is differs) ∙ kept key apart)
           v0.blobs v1.blobs v3.blobs others (swept_keys p.released v1 v3 clears);
       complete = λ _ _. inl (accepts p.reply next, (prepares.decides, made.reply_is, refl));
-      granted = λ _ _ may. settled_grants s asked reply next (inl (accepts p.reply next, (prepares.decides, made.reply_is, refl))) may;
+      granted = λ _ _ may. faultless_grants s asked reply next (inl (accepts p.reply next, (prepares.decides, made.reply_is, refl))) may;
     }
 
 -- A change that was staged, and committed and swept, acts.

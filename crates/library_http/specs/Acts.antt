@@ -54,8 +54,8 @@ OldKeysKept next released old new =
     (key : ℕ) → key < next → AllByRecursion (λ take. key ≢ take) released → new key ≡ old key
 
 -- a request was answered as it is decided, or memory was wanting
-abbrev pub IsSettled : State → Asked → Reply → State → Type 0
-IsSettled s asked reply next =
+abbrev pub IsFaultless : State → Asked → Reply → State → Type 0
+IsFaultless s asked reply next =
     ((verdict : Verdict) × AnswersBy (as_decided verdict) s asked reply next) ⊎ AnswersBy without_memory s asked reply next
 
 -- A request was answered from a state. What it took out is swept, or the vault's count rose. The vault changed under the next take and
@@ -69,7 +69,7 @@ pub record Acts (s : State) (asked : Asked) (reply : Reply) (before now : World)
   pub calls : spares_vault asked ≡ true → now.vault.calls ≡ before.vault.calls
   pub keys : Goes (OtherKeysKept s.next_take (taken_out s next)) before.vault.blobs now.vault.blobs
   pub complete : ¬ Rose before.vault.faults now.vault.faults → ¬ Rose before.keeper.faults now.keeper.faults
-      → IsSettled s asked reply next
+      → IsFaultless s asked reply next
   pub granted : ¬ Rose before.vault.faults now.vault.faults → ¬ Rose before.keeper.faults now.keeper.faults → IsGrantable s asked
       → IsKeptStatus reply.status ⊎ (reply ≡ refusal cause.Memory)
 

@@ -35,7 +35,7 @@ members-none id [] outside = refl
 members-none id (r ∷ rs) outside = rw outside.0 (members-none id rs outside.1)
 
 -- An album of no recording has no level.
-no_levels-summed : IsAlbumSummary [] no_levels
+pub no_levels-summed : IsAlbumSummary [] no_levels
 no_levels-summed = record {
   frames_kept = refl;
   loudness = tt;

@@ -3,11 +3,11 @@ pub mod WorkedNames
 pub mod InOrderLemmas
 pub mod Imports
 pub mod Accepting
+pub mod CommandRefusals
 pub mod Measuring
 pub mod Verdicts
 pub mod RowBounds
 pub mod Rows
-pub mod WorkedSteps
 pub mod WorkedRules
 pub mod WaveFiles
 pub mod SegmentRows
@@ -18,6 +18,7 @@ pub mod Dropped
 pub mod Resumming
 pub mod Keeping
 pub mod ActsOnce
+pub mod Joining
 pub mod Exits
 pub mod Steps
 pub mod Resummed
@@ -44,3 +45,4 @@ pub mod LeadsRemove
 pub mod Refusing
 pub mod Closing
 pub mod Granting
+pub mod WorkedSteps

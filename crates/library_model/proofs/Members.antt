@@ -1,5 +1,5 @@
 -- The recordings of albums that a change leaves, and the levels that stay with them.
-use Rattle.std.proofs.Common.{◌≡◌, ◌==◌, ◌||◌, ◌∙◌, not, ℕ, Bool, true, false, cond, nat_lt, Option, None, Some, List, [], ◌∷◌, inl, inr, ◌⊎◌, refl, sym, ap, subst, if◌then◌else◌}
+use Rattle.std.proofs.Common.{◌≡◌, ◌≢◌, ◌==◌, ◌||◌, ◌∙◌, not, true≢false, ℕ, Bool, true, false, cond, nat_lt, Option, None, Some, List, [], ◌∷◌, inl, inr, ◌⊎◌, refl, sym, ap, subst, if◌then◌else◌}
 use Rattle.std.specs.List.{AllByRecursion}
 use Rattle.keeper_store.specs.Puts.{Ascends, put, without}
 use Rattle.sound_model.specs.Albums.{IsAlbumSummary}
@@ -128,3 +128,30 @@ moved_outside (Some from) (Some to) id outside = by_test (from == to) (nat_lt fr
     by_test true below is outside = inr (same is)
     by_test false true is outside = inl (both from to outside)
     by_test false false is outside = let pair = both to from outside in inl (pair.1, pair.0)
+
+-- a test that passes alone, or else nothing does
+alone : (here : Bool) → (here || false) ≡ true → here ≡ true
+alone true is = refl
+alone false is = is
+
+-- Each of the albums that get other levels as a recording moves has it before or after, and not both.
+pub moved_inside : (from to : Option ℕ) (id : ℕ) → is_among id (moved from to) ≡ true → is_in_album id from ≢ is_in_album id to
+moved_inside None None id among same = true≢false (sym among)
+moved_inside None (Some to) id among same = true≢false (sym (alone (to == id) among) ∙ sym same)
+moved_inside (Some from) None id among same = true≢false (sym (alone (from == id) among) ∙ same)
+moved_inside (Some from) (Some to) id among same = by_test (from == to) (nat_lt from to) refl among
+  where
+    apart : (from == to) ≡ false → (from == id) ≡ true → (to == id) ≡ true → ⊥
+    apart differ first second = test_differs from to differ (test_is from id first ∙ sym (test_is to id second))
+
+    both : (a b : Bool) → (a || (b || false)) ≡ true → a ≡ b → (a ≡ true) × (b ≡ true)
+    both true true is same = (refl, refl)
+    both true false is same = absurd (true≢false same)
+    both false true is same = absurd (true≢false (sym same))
+    both false false is same = absurd (true≢false (sym is))
+
+    by_test : (equal below : Bool) → (from == to) ≡ equal
+        → is_among id (if equal then [] else if below then from ∷ to ∷ [] else to ∷ from ∷ []) ≡ true → ⊥
+    by_test true below is among = true≢false (sym among)
+    by_test false true is among = let pair = both (from == id) (to == id) among same in apart is pair.0 pair.1
+    by_test false false is among = let pair = both (to == id) (from == id) among (sym same) in apart is pair.1 pair.0

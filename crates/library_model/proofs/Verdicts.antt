@@ -1,4 +1,4 @@
--- There is one verdict, and an import within the limits is granted.
+-- There is one verdict at most, and an import within the limits is granted.
 use Rattle.std.proofs.Common.{◌≡◌, ◌||◌, ℕ, Bool, true, false, Option, None, Some, nat_le, List, sym, ap, ◌∙◌, subst}
 use Rattle.lib_base.specs.declared.files.Summary.{Summary}
 use Rattle.lib_base.specs.declared.limits.TheConstants.{NUMBERS_END}
@@ -14,7 +14,7 @@ use Rattle.library_model.specs.State.{Album, Kept, Recording, State}
 use Rattle.library_model.proofs.Measuring.{Finds_unique}
 use Rattle.library_model.proofs.Resumming.{Resums-unique}
 
--- There is one verdict of a step.
+-- A step has one verdict at most.
 pub Sums-unique : (step : Step) (v w : Verdict) → Sums step v → Sums step w → v ≡ w
 Sums-unique (refuses reply) v w x y = x ∙ sym y
 Sums-unique (makes said next) v w x y =
@@ -40,7 +40,7 @@ OfFile-unique file step v w x y =
     let Of : Finding → Type 0 = λ f. Sums (step f) v in
     Sums-unique (step y.0) v w (subst Of same x.2) y.2
 
--- There is one verdict on a command.
+-- A command has one verdict at most.
 pub DecidesCommand-unique : (s : State) (wanted : Command) (v w : Verdict) → DecidesCommand s wanted v → DecidesCommand s wanted w → v ≡ w
 DecidesCommand-unique s (NewAlbum name) = Sums-unique (new_album_step s name)
 DecidesCommand-unique s (Import album name file) =
@@ -55,7 +55,7 @@ DecidesCommand-unique s (RemoveRecording id) =
 DecidesCommand-unique s (RemoveAlbum id) =
     OfAlbum-unique (is_there (Some id) s.albums) (Sums (remove_album_step s id)) (Sums-unique (remove_album_step s id))
 
--- There is one verdict on a change.
+-- A change has one verdict at most.
 pub DecidesChange-unique : (s : State) (token mark : List ℕ) (wanted : Wanted) (kept : Option Kept) (v w : Verdict)
     → DecidesChange s token mark wanted kept v → DecidesChange s token mark wanted kept w → v ≡ w
 DecidesChange-unique s token mark wanted (Some kept) v w x y = x ∙ sym y
@@ -63,7 +63,7 @@ DecidesChange-unique s token mark (malformed reply) None v w x y = x ∙ sym y
 DecidesChange-unique s token mark (command wanted) None v w x y =
     x.2 ∙ ap (keeping token mark) (DecidesCommand-unique s wanted x.0 y.0 x.1 y.1) ∙ sym y.2
 
--- There is one verdict on what is asked.
+-- What is asked has one verdict at most.
 pub Decides-unique : (s : State) (q : Asked) (v w : Verdict) → Decides s q v → Decides s q w → v ≡ w
 Decides-unique s (refused reply) v w x y = x ∙ sym y
 Decides-unique s (question about) v w x y = x ∙ sym y

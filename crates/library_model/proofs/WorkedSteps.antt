@@ -5,14 +5,17 @@ use Rattle.serde_json.proofs.OnLiterals.{serde_json_on_literals}
 use Rattle.lib_base.specs.declared.outcomes.Rule.TheVariants.{V}
 use Rattle.file_model.proofs.Rows.{four_frames}
 use Rattle.sound_model.specs.Texts.{millionths}
-use Rattle.library_model.specs.declared.messages.Command.TheVariants.{Import, Retake, Regroup, RemoveRecording, RemoveAlbum}
+use Rattle.library_model.specs.declared.messages.Command.TheVariants.{NewAlbum, Import, Retake, Regroup, RemoveRecording, RemoveAlbum}
 use Rattle.library_model.specs.declared.messages.Question.TheVariants as about
 use Rattle.library_model.specs.declared.refusals.Refusal.TheVariants.{NoRecording, NoAlbum}
+use Rattle.library_model.specs.Asked.{change, command}
 use Rattle.library_model.specs.Findings.{measured, broken_by}
-use Rattle.library_model.specs.Machine.{DecidesCommand, import_step, is_crowded, makes, new_album_step, no_levels, question_reply, recording_reply, refuses, regroup_step, regrouping, remove_album_step, remove_step, removing, retake_step, retaking, stays, taken_out}
+use Rattle.library_model.specs.Granted.{IsGrantable}
+use Rattle.library_model.specs.Machine.{Decides, DecidesCommand, accepts, album_reply, import_step, is_crowded, kept_reply, makes, new_album_step, no_levels, question_reply, recording_reply, refuses, regroup_step, regrouping, remove_album_step, remove_step, removing, retake_step, retaking, stays, taken_out}
 use Rattle.library_model.specs.Replies.{json, format_refusal, refusal}
 use Rattle.library_model.specs.State.{Album, Recording, State, empty_state}
-use Rattle.library_model.proofs.Rows.{row_recording, row_sound, row_summary}
+use Rattle.library_model.proofs.LeadsAlbums.{no_levels-summed}
+use Rattle.library_model.proofs.Rows.{row_file-Finds, row_recording, row_sound, row_summary}
 
 -- ---- small states
 
@@ -32,10 +35,14 @@ row_member = record row_recording { album = Some 1 }
 abbrev pub row_state : State
 row_state = record row_with_album { next_recording = 2; next_take = 2; recordings = row_member ∷ [] }
 
--- So many recordings in it.
+-- So many recordings in it: how many is all that is asked of them, so one stands for each.
 abbrev row_members : ℕ → List Recording
 row_members zero = []
 row_members (suc n) = row_member ∷ row_members n
+
+-- The state that has them.
+abbrev row_crowd : ℕ → State
+row_crowd n = record row_state { recordings = row_members n }
 
 -- ---- new albums
 
@@ -63,6 +70,11 @@ import-no_album = refl
 -- 256 recordings do not crowd an album, and 257 do.
 pub is_crowded-most : (is_crowded (Some 1) (row_members 256) ≡ false) × (is_crowded (Some 1) (row_members 257) ≡ true)
 is_crowded-most = (refl, refl)
+
+-- So an album of 256 takes no import.
+pub import_step-album_full : import_step (row_crowd 256) (Some 1) [] (four_frames 1) (measured row_sound row_summary)
+    ≡ refuses (json 409 (codes "{\"error\":\"album-full\"}"))
+import_step-album_full = refl
 
 -- ---- retakes
 
@@ -99,6 +111,11 @@ regroup_step-out = refl
 -- Into the album that it is in, nothing changes.
 pub regroup_step-same : regroup_step row_state row_member (Some 1) ≡ makes (λ _. recording_reply 200 row_member) row_state
 regroup_step-same = refl
+
+-- Into an album of 256 comes no other one.
+pub regroup_step-album_full : regroup_step (row_crowd 256) (record row_recording { id = 2; take = 2 }) (Some 1)
+    ≡ refuses (json 409 (codes "{\"error\":\"album-full\"}"))
+regroup_step-album_full = refl
 
 -- The recording is looked for before the album.
 pub regroup-no_recording : DecidesCommand row_state (Regroup 9 (Some 77)) (stays (refusal NoRecording))
@@ -149,3 +166,39 @@ question_reply-album = refl
 
 pub question_reply-no_album : question_reply row_state (about.Album 0) ≡ json 404 (codes "{\"error\":\"no-album\"}")
 question_reply-no_album = refl
+
+-- ---- fresh tokens
+
+-- A new album is accepted, and its reply is kept.
+pub Decides-accepts : Decides empty_state (change (codes "t1") (7 ∷ []) (command (NewAlbum (codes "A"))))
+    (accepts (album_reply 201 row_album [])
+    (record row_with_album { replies = kept_reply (codes "t1") (7 ∷ []) (album_reply 201 row_album []) ∷ [] }))
+Decides-accepts =
+    (accepts (album_reply 201 row_album []) row_with_album, (row_album ∷ [], (refl, refl, no_levels-summed, tt), refl), refl)
+
+-- The removal of an album with a recording is refused, and nothing is kept.
+pub Decides-refuses : Decides row_state (change (codes "t1") (7 ∷ []) (command (RemoveAlbum 1)))
+    (stays (json 409 (codes "{\"error\":\"not-empty\"}")))
+Decides-refuses = (stays (json 409 (codes "{\"error\":\"not-empty\"}")), refl, refl)
+
+-- ---- what nothing refuses
+
+-- The first import of a file that reads as a sound is one.
+pub IsGrantable-import : IsGrantable empty_state (change (codes "t1") (7 ∷ []) (command (Import None [] (four_frames 1))))
+IsGrantable-import = (
+  refl,
+  record { there = refl; sound = row_sound; summary = row_summary; finds = row_file-Finds; room = refl; left = refl },
+)
+
+-- So is an import into an album that has room, and a retake of a recording that is there.
+pub IsGrantable-album : IsGrantable row_state (change (codes "t1") (7 ∷ []) (command (Import (Some 1) [] (four_frames 1))))
+IsGrantable-album = (
+  refl,
+  record { there = refl; sound = row_sound; summary = row_summary; finds = row_file-Finds; room = refl; left = refl },
+)
+
+pub IsGrantable-retake : IsGrantable row_state (change (codes "t1") (7 ∷ []) (command (Retake 1 (four_frames 1))))
+IsGrantable-retake = (
+  refl,
+  record { recording = row_member; there = refl; sound = row_sound; summary = row_summary; finds = row_file-Finds; left = refl },
+)

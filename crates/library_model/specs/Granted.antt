@@ -37,7 +37,7 @@ IsUnrefused s (Regroup id album) = ⊥
 IsUnrefused s (RemoveRecording id) = ⊥
 IsUnrefused s (RemoveAlbum id) = ⊥
 
--- an import or a retake under a fresh token, with a name of its form, which nothing refuses
+-- an import or a retake under a fresh token, which nothing refuses
 abbrev pub IsGrantable : State → Asked → Type 0
 IsGrantable s (refused reply) = ⊥
 IsGrantable s (question about) = ⊥

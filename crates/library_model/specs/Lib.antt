@@ -9,6 +9,7 @@ pub mod Machine
 pub mod Named
 pub mod Names
 pub mod Refusals
+pub mod Repeats
 pub mod Replies
 pub mod Stands
 pub mod RowRules
