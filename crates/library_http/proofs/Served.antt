@@ -242,8 +242,11 @@ Serves-fault s more held taken source0 source1 sink w keeps content cut =
   where
     cut_at : (end : End) → (end ≡ ended) ⊎ (end ≡ unframeable (framing_refusal Frame)) → AreRequests (suc more) (held ++ taken) [] end
         → CutShort (suc more) 0 (held ++ taken) [] sink.written sink.written
-    cut_at end cuts are =
-        record { end = end; cut = cuts; requests = are; stay = tt; counted = refl; written = Appends-nil sink.written }
+    cut_at end cuts are = record {
+      requests = record { end = end; are = are; stay = tt; cut = cuts };
+      counted = refl;
+      written = Appends-nil sink.written;
+    }
 
     by_case : (held ++ taken ≡ []) ⊎ IsUnframeable (held ++ taken) Frame → CutShort (suc more) 0 (held ++ taken) [] sink.written sink.written
     by_case (inl none) = cut_at ended (inl refl) (AreRequests-none (suc more) (held ++ taken) none)
@@ -282,10 +285,7 @@ pub Serves-fault_behind : (s : State) (held taken : List ℕ) (source0 source1 :
     → Serves held 0 s SourceFault 0 source0 source1 sink sink w w
 Serves-fault_behind s held taken source0 source1 sink w keeps content none =
     serves_none s 0 SourceFault held taken source0 source1 sink sink w keeps content (record {
-      end = ended;
-      cut = inl refl;
-      requests = AreRequests-none 0 (held ++ taken) none;
-      stay = tt;
+      requests = record { end = ended; are = AreRequests-none 0 (held ++ taken) none; stay = tt; cut = inl refl };
       counted = refl;
       written = Appends-nil sink.written;
     })

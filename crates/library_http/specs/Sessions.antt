@@ -13,15 +13,15 @@ use Rattle.library_model.specs.InOrder.{Differ}
 use Rattle.library_model.specs.Machine.{has_take}
 use Rattle.library_model.specs.State.{State}
 use Rattle.http_model.specs.declared.refusals.FramingRefusal.{FramingRefusal}
-use Rattle.http_model.specs.declared.refusals.FramingRefusal.TheVariants.{Frame}
 use Rattle.http_model.specs.Exchanges as wire
 use Rattle.http_model.specs.Exchanges.{Exchange, answered_all, spelled_of, spelled_all, ending, output}
 use Rattle.http_model.specs.Refusals.{framing_refusal}
-use Rattle.http_model.specs.Requests.{AreRequests, IsFront, End, Framed, closes, ended, turns, unframeable}
+use Rattle.http_model.specs.Requests.{AreRequests, IsFront, End, ended, turns, unframeable}
 use Rattle.http_inbox.specs.Inboxes.{Covers}
 use Rattle.library_http.specs.declared.serving.How.{How}
 use Rattle.library_http.specs.declared.serving.How.TheVariants.{Ended, Turns, Unframeable, SourceFault, SinkFault, Memory}
 use Rattle.library_http.specs.Acts.{ActInTurn, Counts, Leads, OldKeysKept}
+use Rattle.library_http.specs.Framings.{AreCutShort}
 use Rattle.library_http.specs.World.{World, KeepsFaults}
 
 -- ---- what was done to the library
@@ -62,13 +62,9 @@ pub record Whole (most : ℕ) (end : End) (answered : ℕ) (left : Option (List 
   pub counted : answered ≡ length exchanges
   pub written : Appends old new (output exchanges end)
 
--- The bytes that were taken, as they stand, are these requests, none of which closes, with nothing behind them or what is no whole
--- request as yet. The replies to them were written.
+-- The bytes that were taken make these requests, none of which closes, as far as they reach. The replies to them were written.
 pub record CutShort (most answered : ℕ) (input : List ℕ) (exchanges : List Exchange) (old new : Option (List ℕ)) : Type 0 where
-  pub end : End
-  pub cut : (end ≡ ended) ⊎ (end ≡ unframeable (framing_refusal Frame))
-  pub requests : AreRequests most input (wire.requests_of exchanges) end
-  pub stay : AllByRecursion (λ (q : Framed). closes q.head ≡ false) (wire.requests_of exchanges)
+  pub requests : AreCutShort most input (wire.requests_of exchanges)
   pub counted : answered ≡ length exchanges
   pub written : Appends old new (spelled_all exchanges)
 
