@@ -1,5 +1,7 @@
 //! When a session reads its source.
+ghost use Rattle.std.specs.Prelude.{None};
 ghost use Rattle.std.specs.Io.{ReadsAtMost};
+ghost use Rattle.std.specs.Io.KnownBytes.{ReadConsumes};
 
 use crate::{How, SessionEnd, session};
 use catalogue_core::Library;
@@ -43,7 +45,8 @@ fn give(
     second: &mut MemSource,
     into: &mut [u8],
 ) -> Result<usize, Failed>
-    ensures { ReadsAtMost result into.new }
+    ensures within { ReadsAtMost result into.new }
+    ensures content { ReadConsumes None None result into.new }
 {
     if replies.load(Ordering::SeqCst) > 0 {
         return second.read(into);
