@@ -34,8 +34,7 @@ FramesAs SourceFault most left taken requests = AreCutShort most taken requests
 FramesAs SinkFault most left taken requests = Covers left taken (λ bytes. IsFront most bytes requests)
 FramesAs Memory most left taken requests = Covers left taken (λ bytes. IsFront most bytes requests)
 
--- What a session of at most so many requests took from its source, which ended so, with so many requests answered whole, and which these
--- were.
+-- What a session of at most so many requests took from its source, that ended so, and the requests that it answered whole, so many.
 pub record IsFramed (how : How) (most answered : ℕ) (source_before source_now : SourceView) : Type 0 where
   pub taken : List ℕ
   pub content : Consumes source_before.left source_now.left taken
