@@ -1,13 +1,11 @@
 -- What is so of the bytes that were taken, however they go on or at the source's end.
-use Rattle.std.proofs.Common.{◌≡◌, ◌≢◌, ℕ, suc, zero, true, false, inl, inr, Option, None, Some, List, [], ◌∷◌, ◌++◌, sym, subst, append-nil}
+use Rattle.std.proofs.Common.{◌≡◌, ◌≢◌, ℕ, suc, zero, true, inl, inr, Option, None, Some, List, [], ◌∷◌, ◌++◌, sym, subst, append-nil}
 use Rattle.std.specs.Io.KnownBytes.{Consumes, IsAtEnd}
 use Rattle.http_model.specs.declared.refusals.FramingRefusal.{FramingRefusal}
 use Rattle.http_model.specs.Refusals.{framing_refusal}
-use Rattle.http_model.specs.Requests.{AreRequests, Framed, IsFront, IsUnframeable, SoFar, closes, ended, turns, unframeable}
-use Rattle.http_model.proofs.RunLaws.{AreRequests-from, SoFar-closed, SoFar-ended, SoFar-front, SoFar-front_with, SoFar-passes, SoFar-refused_on, SoFar-turns}
-use Rattle.http_inbox.specs.declared.requests.Request.{Request}
+use Rattle.http_model.specs.Requests.{AreRequests, Framed, Frames, IsFront, IsUnframeable, SoFar, closes, ended, turns, unframeable}
+use Rattle.http_model.proofs.RunLaws.{AreRequests-from, SoFar-closed, SoFar-ended, SoFar-front, SoFar-refused_on, SoFar-turns}
 use Rattle.http_inbox.specs.Inboxes.{Covers}
-use Rattle.http_inbox.specs.Nexts.{BeginsWith, behind, framed}
 
 -- ---- any property
 
@@ -45,19 +43,11 @@ Covers-ended left most n taken passed at_end x =
     inl (at_end, AreRequests-from most taken passed ended (SoFar-ended most n taken passed x))
 
 -- A request closes.
-pub Covers-closed : (left : Option (List ℕ)) (most n : ℕ) (taken bytes inbox : List ℕ) (passed : List Framed) (request : Request)
-    → SoFar most (suc n) taken bytes passed → (begins : BeginsWith bytes inbox request) → closes begins.head ≡ true
-    → Covers left taken (λ b. AreRequests most b (passed ++ framed begins.head request ∷ []) ended)
-Covers-closed left most n taken bytes inbox passed request x begins shut = inr (λ more.
-    AreRequests-from most (taken ++ more) (passed ++ framed begins.head request ∷ []) ended
-    (SoFar-closed most n taken bytes (behind inbox request) more passed (framed begins.head request) x (begins.frames more) shut))
-
--- A request was passed that does not close.
-pub SoFar-framed : (most n : ℕ) (taken bytes inbox : List ℕ) (passed : List Framed) (request : Request)
-    → SoFar most (suc n) taken bytes passed → (begins : BeginsWith bytes inbox request) → closes begins.head ≡ false
-    → SoFar most n taken (behind inbox request) (passed ++ framed begins.head request ∷ [])
-SoFar-framed most n taken bytes inbox passed request x begins stays =
-    SoFar-passes most n taken bytes (behind inbox request) passed (framed begins.head request) x begins.frames stays
+pub Covers-closed : (left : Option (List ℕ)) (most n : ℕ) (taken bytes rest : List ℕ) (passed : List Framed) (q : Framed)
+    → SoFar most (suc n) taken bytes passed → ((more : List ℕ) → Frames (bytes ++ more) q (rest ++ more)) → closes q.head ≡ true
+    → Covers left taken (λ b. AreRequests most b (passed ++ q ∷ []) ended)
+Covers-closed left most n taken bytes rest passed q x frames shut = inr (λ more.
+    AreRequests-from most (taken ++ more) (passed ++ q ∷ []) ended (SoFar-closed most n taken bytes rest more passed q x (frames more) shut))
 
 -- As many requests as are answered were passed, and a byte is left.
 pub Covers-turns : (left : Option (List ℕ)) (most : ℕ) (taken bytes : List ℕ) (passed : List Framed) → bytes ≢ []
@@ -78,10 +68,3 @@ Covers-refused left most n taken bytes passed cause x refused =
 pub Covers-front : (left : Option (List ℕ)) (most n : ℕ) (taken bytes : List ℕ) (passed : List Framed) → SoFar most n taken bytes passed
     → Covers left taken (λ b. IsFront most b passed)
 Covers-front left most n taken bytes passed x = inr (λ more. SoFar-front most n taken bytes more passed x)
-
--- So are they with the one that is framed next.
-pub Covers-front_with : (left : Option (List ℕ)) (most n : ℕ) (taken bytes inbox : List ℕ) (passed : List Framed) (request : Request)
-    → SoFar most (suc n) taken bytes passed → (begins : BeginsWith bytes inbox request)
-    → Covers left taken (λ b. IsFront most b (passed ++ framed begins.head request ∷ []))
-Covers-front_with left most n taken bytes inbox passed request x begins = inr (λ more.
-    SoFar-front_with most n taken bytes (behind inbox request) more passed (framed begins.head request) x (begins.frames more))

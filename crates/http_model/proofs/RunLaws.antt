@@ -1,7 +1,6 @@
 -- How the requests of an input are passed: bytes are read, a request is passed, and the input ends.
-use Rattle.std.proofs.Common.{◌≡◌, ◌≢◌, ◌⊎◌, ℕ, suc, zero, Bool, true, false, inl, inr, List, [], ◌∷◌, ◌++◌, refl, sym, ap, ◌∙◌, subst, append_assoc, append-nil}
+use Rattle.std.proofs.Common.{◌≡◌, ◌≢◌, ℕ, suc, zero, true, false, inl, inr, List, [], ◌∷◌, ◌++◌, refl, sym, ap, ◌∙◌, subst, append_assoc, append-nil}
 use Rattle.http_model.specs.declared.refusals.FramingRefusal.{FramingRefusal}
-use Rattle.http_model.specs.declared.refusals.FramingRefusal.TheVariants.{Frame}
 use Rattle.http_model.specs.Refusals.{framing_refusal}
 use Rattle.http_model.specs.Requests.{AreRequests, End, Frames, Framed, IsFront, IsUnframeable, RequestsOf, SoFar, closes, ended, turns, unframeable}
 use Rattle.http_model.proofs.RequestLaws.{Frames-append, Frames-unique, RequestsOf-unique, StopsAt-no_request, not_both}
@@ -126,14 +125,6 @@ SoFar-refused_on most n taken left more passed cause x y =
     SoFar-ends_on most (suc n) taken left more passed (unframeable (framing_refusal cause)) x
     (RequestsOf-refused n (left ++ more) cause y)
 
--- What is left of the bytes as they are is no request, or nothing.
-pub SoFar-broken : (most n : ℕ) (taken left : List ℕ) (passed : List Framed) → SoFar most (suc n) taken left passed
-    → (left ≡ []) ⊎ IsUnframeable left Frame → (e : End) × RequestsOf most taken passed e
-SoFar-broken most n taken left passed x (inl none) =
-    (ended, SoFar-ended most (suc n) taken passed (subst (λ (b : List ℕ). SoFar most (suc n) taken b passed) none x))
-SoFar-broken most n taken left passed x (inr refused) =
-    (unframeable (framing_refusal Frame), SoFar-refused most n taken left passed Frame x refused)
-
 -- ---- the front that was passed
 
 -- The bytes begin with the requests that were passed, however they go on.
@@ -141,14 +132,3 @@ pub SoFar-front : (most n : ℕ) (taken left more : List ℕ) (passed : List Fra
     → IsFront most (taken ++ more) passed
 SoFar-front most n taken left more passed x =
     subst (λ (l : List Framed). IsFront most (taken ++ more) l) (append-nil passed) (x.front more [] tt)
-
-one-IsFront : (n : ℕ) (bytes rest : List ℕ) (q : Framed) (test : Bool) → closes q.head ≡ test → Frames bytes q rest
-    → IsFront (suc n) bytes (q ∷ [])
-one-IsFront n bytes rest q true is x = (rest, x, inl (is, refl))
-one-IsFront n bytes rest q false is x = (rest, x, inr (is, tt))
-
--- They begin with these and with the request that is framed next.
-pub SoFar-front_with : (most n : ℕ) (taken left rest more : List ℕ) (passed : List Framed) (q : Framed)
-    → SoFar most (suc n) taken left passed → Frames (left ++ more) q (rest ++ more) → IsFront most (taken ++ more) (passed ++ q ∷ [])
-SoFar-front_with most n taken left rest more passed q x frames =
-    x.front more (q ∷ []) (one-IsFront n (left ++ more) (rest ++ more) q (closes q.head) refl frames)

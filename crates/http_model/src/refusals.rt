@@ -12,7 +12,7 @@ pub enum FramingRefusal {
     Frame,
     /// A length is asked for and is not given.
     Length,
-    /// The input is too long.
+    /// A body is longer than may be.
     Size,
 }
 
@@ -105,7 +105,7 @@ fn length_text() -> &'static [u8]
     b"HTTP/1.1 411 Length Required\r\nContent-Type: application/json\r\nContent-Length: 18\r\nConnection: close\r\n\r\n{\"error\":\"length\"}"
 }
 
-/// The reply to what is too long.
+/// The reply to a body that is longer than may be.
 fn size_text() -> &'static [u8]
     ensures { result.now ≡ spelled_refusal (framing_refusal cause.Size) }
 {

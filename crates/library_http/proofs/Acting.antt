@@ -1,5 +1,5 @@
 -- What one request does to the world: one that changes nothing, one that is staged, committed and swept.
-use Rattle.std.proofs.Common.{◌≡◌, ◌≢◌, ◌≤◌, ◌+◌, ◌==◌, ◌||◌, not, ℕ, Bool, true, false, List, [], ◌∷◌, Option, None, Some, refl, sym, ap, ◌∙◌, subst, true≢false, ◌⊎◌, arith, if◌then◌else◌, inl, inr, Result}
+use Rattle.std.proofs.Common.{◌≡◌, ◌≢◌, ◌≤◌, ◌<◌, ◌+◌, ◌==◌, ◌||◌, not, ℕ, Bool, true, false, List, [], ◌∷◌, Option, None, Some, refl, sym, ap, ◌∙◌, subst, true≢false, ◌⊎◌, arith, if◌then◌else◌, inl, inr, Result}
 use Rattle.std.specs.List.{AllByRecursion}
 use Rattle.std.proofs.lemmas.Bool.Decides.{nat_tests}
 use Rattle.lib_base.specs.declared.outcomes.Memory.{Memory}
@@ -7,7 +7,7 @@ use Rattle.lib_base.specs.Faults.{Rose}
 use Rattle.keeper_store.specs.Blobs.{Blobs, OthersKept}
 use Rattle.keeper_store.specs.Changes.{changed_all}
 use Rattle.keeper_store.specs.declared.contents.NextNumbers.{NextNumbers}
-use Rattle.keeper_store.specs.Goes.{Goes}
+use Rattle.keeper_store.specs.Goes.{Goes, RoseByOne, RoseByOneAtMost}
 use Rattle.keeper_store.specs.Keepers.{KeeperView}
 use Rattle.keeper_store.specs.Vaults.{VaultView}
 use Rattle.library_model.specs.declared.messages.Command.{Command}
@@ -17,11 +17,13 @@ use Rattle.library_model.specs.Asked.{Asked, change, command, puts_file, spares_
 use Rattle.library_model.specs.Exchanges.{counted}
 use Rattle.library_model.specs.Granted.{IsGrantable}
 use Rattle.library_model.specs.InOrder.{IsKeptStatus}
-use Rattle.library_model.specs.Machine.{Answer, AnswersBy, Decides, Way, accepts, stays, as_decided, without_memory, vault_failed, keeper_failed, has_take, taken_out}
+use Rattle.library_model.specs.Machine.{Answer, AnswersBy, Decides, Way, accepts, stays, as_decided, without_memory, vault_failed, keeper_failed, has_take, kept_reply, kept_under, taken_out}
 use Rattle.library_model.specs.Refusals.{status_of}
 use Rattle.library_model.specs.Replies.{refusal}
 use Rattle.library_model.specs.Stands.{AsksWithin, HoldsFiles, HoldsFileOf, IsValid, tables_of}
-use Rattle.library_model.specs.State.{Recording, State}
+use Rattle.library_model.specs.State.{Kept, Recording, State}
+use Rattle.library_model.proofs.Accepting.{accepted-IsKeptStep}
+use Rattle.library_model.proofs.ActsOnce.{accepted_kept}
 use Rattle.library_model.proofs.Granting.{Decides-granted}
 use Rattle.library_model.proofs.Imports.{AllByRecursion-weaker, HoldsFiles-kept}
 use Rattle.library_model.proofs.Statuses.{Decides-IsBelow, RefusesBelow}
@@ -35,7 +37,7 @@ use Rattle.catalogue_core.specs.Committing.{Commits, IsLeft, IsMade}
 use Rattle.catalogue_core.specs.Kept.{Holds, HoldsAgain, Keeps, numbers_of, takes_of}
 use Rattle.catalogue_core.specs.Staging.{Prepares, Stages}
 use Rattle.catalogue_core.specs.Sweeping.{Clears, Sweeps}
-use Rattle.library_http.specs.Acts.{Acts, IsFaultless, Leads, OtherKeysKept, count_held, held}
+use Rattle.library_http.specs.Acts.{Acts, IsFaultless, Leads, OtherKeysKept, count_held, held, server_fault}
 use Rattle.library_http.specs.World.{World, world, RoseBy}
 use Rattle.library_http.proofs.Goings.{Goes-same, Goes-then, Goes-weaker, Goes-both, RoseBy-none, RoseBy-one}
 
@@ -143,12 +145,22 @@ none_left s reply w0 w1 counts others =
     by_sum : (m n x y : ℕ) → n ≡ 0 → RoseBy m x y → RoseBy (m + n) x y
     by_sum m n x y none rose = omega arith
 
+-- what a request that leaves the state did to keeper and vault: nothing, where its reply tells of no server's fault
+pub record Touches (reply : Reply) (before now : World) : Type 0 where
+  pub applies : RoseByOneAtMost before.keeper.applies now.keeper.applies
+  pub neither : reply.status < server_fault → (now.keeper ≡ before.keeper) × (now.vault ≡ before.vault)
+
+-- a reply of a server's fault may follow an apply, and calls of the vault
+Touches-fault : (reply : Reply) (w0 w1 : World) → server_fault ≤ reply.status → RoseByOneAtMost w0.keeper.applies w1.keeper.applies
+    → Touches reply w0 w1
+Touches-fault reply w0 w1 fault once = record { applies = once; neither = λ below. absurd (omega (arith, fault, below)) }
+
 -- Such a request acts.
 pub Acts-kept : (s : State) (asked : Asked) (reply : Reply) (w0 w1 : World) → Keeps w0.library s → Answer s asked reply s
     → HoldsAgain w0.library w1.library → Goes (OthersKept s.next_take) w0.vault.blobs w1.vault.blobs
     → Goes (λ old new. new ≡ old) w0.keeper.tables w1.keeper.tables → CountsOne reply w0 w1
-    → (spares_vault asked ≡ true → w1.vault.calls ≡ w0.vault.calls) → Acts s asked reply w0 w1
-Acts-kept s asked reply w0 w1 keeps answer again others tables counts calls = record {
+    → (spares_vault asked ≡ true → w1.vault.calls ≡ w0.vault.calls) → Touches reply w0 w1 → Acts s asked reply w0 w1
+Acts-kept s asked reply w0 w1 keeps answer again others tables counts calls touches = record {
   next = s;
   answers = answer;
   leads = Leads-kept s w0 w1 keeps again others tables;
@@ -156,6 +168,8 @@ Acts-kept s asked reply w0 w1 keeps answer again others tables counts calls = re
   calls = calls;
   keys = Goes-weaker (OthersKept s.next_take) (OtherKeysKept s.next_take (taken_out s s))
       (λ old new kept key apart differs. kept key apart) w0.vault.blobs w1.vault.blobs others;
+  applies = touches.applies;
+  untouched = λ _ below. touches.neither below;
   complete = settled_without_faults s asked reply s w0 w1 answer counts;
   granted = λ vault keeper may. faultless_grants s asked reply s (settled_without_faults s asked reply s w0 w1 answer counts vault keeper) may;
 }
@@ -168,6 +182,7 @@ Acts-same s asked reply w keeps answer vault keeper =
     (Goes-same (OthersKept s.next_take) (λ blobs other apart. refl) w.vault.blobs)
     (Goes-same (λ t u. u ≡ t) (λ t. refl) w.keeper.tables)
     (CountsOne-neither reply w w vault keeper (omega arith) (omega arith)) (λ spares. refl)
+    (record { applies = (omega arith, omega arith); neither = λ below. (refl, refl) })
 
 -- Want of memory, with nothing touched.
 pub Acts-unread : (s : State) (asked : Asked) (w : World) → Keeps w.library s → Acts s asked (refusal cause.Memory) w w
@@ -260,27 +275,45 @@ spares false false is = (refl, refl)
 pub Acts-staged : (s : State) (token mark : List ℕ) (wanted : Command) (reply : Reply) (r : Result Staged Memory) (lib0 lib1 : Library)
     (keeper : KeeperView) (v0 v1 : VaultView) → Keeps lib0 s → Stages wanted lib0 lib1 v0 v1 r → (puts_file wanted ≡ false → v1 ≡ v0)
     → Answer s (change token mark (command wanted)) reply s → CountsOne reply (world lib0 keeper v0) (world lib1 keeper v1)
+    → (reply.status < server_fault → v1 ≡ v0)
     → Acts s (change token mark (command wanted)) reply (world lib0 keeper v0) (world lib1 keeper v1)
-Acts-staged s token mark wanted reply r lib0 lib1 keeper v0 v1 keeps stages spared answer counts =
+Acts-staged s token mark wanted reply r lib0 lib1 keeper v0 v1 keeps stages spared answer counts untouched =
     Acts-kept s (change token mark (command wanted)) reply (world lib0 keeper v0) (world lib1 keeper v1) keeps answer stages.held
     (others_of s lib0 v0.blobs v1.blobs keeps stages.others) (Goes-same (λ t u. u ≡ t) (λ t. refl) keeper.tables) counts
     (λ is. ap (λ (v : VaultView). v.calls) (spared (spares (puts_file wanted) (takes_file wanted) is).0))
+    (record { applies = (omega arith, omega arith); neither = λ below. (refl, untouched below) })
+
+-- a count that rose by one rose by one at most
+at_most : (before now : ℕ) → RoseByOne before now → RoseByOneAtMost before now
+at_most before now rose = (rose.later, omega (arith, rose.counted))
 
 -- A change that was staged and then was not made leaves the state.
 Acts-left : (s : State) (token mark : List ℕ) (wanted : Command) (reply : Reply) (r : Result Staged Memory) (lib0 lib1 lib2 lib3 : Library)
     (k0 k2 : KeeperView) (v0 v1 v3 : VaultView) → Keeps lib0 s → Stages wanted lib0 lib1 v0 v1 r → (puts_file wanted ≡ false → v1 ≡ v0)
     → IsLeft lib1 lib2 k0 k2 → Sweeps lib2 lib3 v1 v3 → Answer s (change token mark (command wanted)) reply s
-    → CountsOne reply (world lib0 k0 v0) (world lib3 k2 v1)
+    → CountsOne reply (world lib0 k0 v0) (world lib3 k2 v1) → server_fault ≤ reply.status → RoseByOne k0.applies k2.applies
     → Acts s (change token mark (command wanted)) reply (world lib0 k0 v0) (world lib3 k2 v3)
-Acts-left s token mark wanted reply r lib0 lib1 lib2 lib3 k0 k2 v0 v1 v3 keeps stages spared left sweeps answer counts =
+Acts-left s token mark wanted reply r lib0 lib1 lib2 lib3 k0 k2 v0 v1 v3 keeps stages spared left sweeps answer counts fault once =
     let none : v3 ≡ v1 = subst (λ (o : Option ℕ). Clears o v1 v3) left.released sweeps.clears in
     subst (λ (v : VaultView). Acts s (change token mark (command wanted)) reply (world lib0 k0 v0) (world lib3 k2 v)) (sym none)
     (Acts-kept s (change token mark (command wanted)) reply (world lib0 k0 v0) (world lib3 k2 v1) keeps answer
     (λ t holds. sweeps.held t (left.holds t (stages.held t holds)))
     (others_of s lib0 v0.blobs v1.blobs keeps stages.others) left.tables counts
-    (λ is. ap (λ (v : VaultView). v.calls) (spared (spares (puts_file wanted) (takes_file wanted) is).0)))
+    (λ is. ap (λ (v : VaultView). v.calls) (spared (spares (puts_file wanted) (takes_file wanted) is).0))
+    (Touches-fault reply (world lib0 k0 v0) (world lib3 k2 v1) fault (at_most k0.applies k2.applies once)))
 
 -- ---- changes that were made
+
+-- a change that is accepted leads to another state, in which its reply is kept
+accepted_moves : (s : State) (token mark : List ℕ) (wanted : Command) (reply : Reply) (next : State)
+    → Decides s (change token mark (command wanted)) (accepts reply next) → next ≢ s
+accepted_moves s token mark wanted reply next decides same =
+    let step = accepted-IsKeptStep s token mark (command wanted) reply next decides in
+    let kept : kept_under token next.replies ≡ Some (kept_reply token mark reply) =
+    accepted_kept s token mark (command wanted) reply next decides in
+    let none : (◌≡◌ {A = Option Kept} (Some (kept_reply token mark reply)) None) =
+    sym kept ∙ ap (λ (t : State). kept_under token t.replies) same ∙ step.2.fresh in
+    cc none
 
 -- the library keeps the state that a change leads to
 made_keeps : (s : State) (asked : Asked) (p : Prepared) (reply : Reply) (lib0 lib1 lib2 lib3 : Library) (k0 k2 : KeeperView)
@@ -357,9 +390,9 @@ Acts-made : (s : State) (token mark : List ℕ) (wanted : Command) (p : Prepared
     → Stages wanted lib0 lib1 v0 v1 r → (puts_file wanted ≡ false → v1 ≡ v0)
     → Goes (λ _ blobs. HoldsFileOf wanted (numbers_of lib0).take blobs) v0.blobs v1.blobs
     → Prepares s (change token mark (command wanted)) p → IsGranted p.reply.status → IsMade p lib1 lib2 k0 k2 reply → k0.faults ≤ k2.faults
-    → Sweeps lib2 lib3 v1 v3
+    → RoseByOne k0.applies k2.applies → Sweeps lib2 lib3 v1 v3
     → Acts s (change token mark (command wanted)) reply (world lib0 k0 v0) (world lib3 k2 v3)
-Acts-made s token mark wanted p reply r lib0 lib1 lib2 lib3 k0 k2 v0 v1 v3 keeps within stages spared put prepares granted made later sweeps =
+Acts-made s token mark wanted p reply r lib0 lib1 lib2 lib3 k0 k2 v0 v1 v3 keeps within stages spared put prepares granted made later once sweeps =
     let asked : Asked = change token mark (command wanted) in
     let next = prepares.next in
     let clears : Clears p.released v1 v3 = subst (λ (o : Option ℕ). Clears o v1 v3) made.released sweeps.clears in
@@ -392,6 +425,8 @@ Acts-made s token mark wanted p reply r lib0 lib1 lib2 lib3 k0 k2 v0 v1 v3 keeps
           (λ a b c kept swept key apart differs.
           swept key (subst (λ (takes : List ℕ). AllByRecursion (λ take. key ≢ take) takes) prepares.released_is differs) ∙ kept key apart)
           v0.blobs v1.blobs v3.blobs others (swept_keys p.released v1 v3 clears);
+      applies = at_most k0.applies k2.applies once;
+      untouched = λ same _. absurd (accepted_moves s token mark wanted p.reply next prepares.decides same);
       complete = λ _ _. inl (accepts p.reply next, (prepares.decides, made.reply_is, refl));
       granted = λ _ _ may. faultless_grants s asked reply next (inl (accepts p.reply next, (prepares.decides, made.reply_is, refl))) may;
     }
@@ -408,17 +443,18 @@ Acts-settled s token mark wanted p reply r lib0 lib1 lib2 lib3 k0 k2 v0 v1 v3 ke
     let later = commits.later in
     elim (commits.settles) [
       | inl made ↦ Acts-made s token mark wanted p reply r lib0 lib1 lib2 lib3 k0 k2 v0 v1 v3 keeps within stages spared put prepares granted made
-          later sweeps
+          later commits.applies sweeps
       | inr other ↦ elim other [
         | inl failed ↦
             subst (λ (q : Reply). Acts s asked q (world lib0 k0 v0) (world lib3 k2 v3)) (sym failed.1)
             (Acts-left s token mark wanted (refusal cause.Keeper) r lib0 lib1 lib2 lib3 k0 k2 v0 v1 v3 keeps stages spared failed.0 sweeps
             (record { way = keeper_failed (accepts p.reply prepares.next); answers = (prepares.decides, tt, refl, refl) })
-            (CountsOne-keeper (world lib0 k0 v0) (world lib3 k2 v1) stages.later failed.2))
+            (CountsOne-keeper (world lib0 k0 v0) (world lib3 k2 v1) stages.later failed.2) (omega arith) commits.applies)
         | inr wanting ↦
             subst (λ (q : Reply). Acts s asked q (world lib0 k0 v0) (world lib3 k2 v3)) (sym wanting.1)
             (Acts-left s token mark wanted (refusal cause.Memory) r lib0 lib1 lib2 lib3 k0 k2 v0 v1 v3 keeps stages spared wanting.0 sweeps
             (record { way = without_memory; answers = (refl, refl) })
-            (CountsOne-neither (refusal cause.Memory) (world lib0 k0 v0) (world lib3 k2 v1) (omega arith) (omega arith) stages.later later))
+            (CountsOne-neither (refusal cause.Memory) (world lib0 k0 v0) (world lib3 k2 v1) (omega arith) (omega arith) stages.later later)
+            (omega arith) commits.applies)
       ]
     ]

@@ -60,8 +60,13 @@ cut_cons : (most answered : ℕ) (input behind : List ℕ) (q : Framed) (reply :
     → Appends old mid (spelled_to q reply) → CutShort most answered behind exchanges mid new
     → CutShort (suc most) (suc answered) input (exchange q reply ∷ exchanges) old new
 cut_cons most answered input behind q reply exchanges old mid new precedes stays written cut = record {
-  end = cut.end;
-  requests = AreRequests-cons most input behind q (requests_of exchanges) cut.end (frames_now input behind q precedes) stays cut.requests;
+  requests = record {
+    end = cut.requests.end;
+    are = AreRequests-cons most input behind q (requests_of exchanges) cut.requests.end (frames_now input behind q precedes) stays
+        cut.requests.are;
+    stay = (stays, cut.requests.stay);
+    cut = cut.requests.cut;
+  };
   counted = ap suc cut.counted;
   written = Appends-trans old mid new (spelled_to q reply) (spelled_all exchanges) written cut.written;
 }

@@ -1,5 +1,6 @@
 mod Acting
 mod Ending
+mod Framing
 mod Fronts
 mod Goings
 mod Making

@@ -240,13 +240,17 @@ pub Serves-fault : (s : State) (more : ℕ) (held taken : List ℕ) (source0 sou
 Serves-fault s more held taken source0 source1 sink w keeps content cut =
     serves_none s (suc more) SourceFault held taken source0 source1 sink sink w keeps content (by_case cut)
   where
-    cut_at : (end : End) → AreRequests (suc more) (held ++ taken) [] end
+    cut_at : (end : End) → (end ≡ ended) ⊎ (end ≡ unframeable (framing_refusal Frame)) → AreRequests (suc more) (held ++ taken) [] end
         → CutShort (suc more) 0 (held ++ taken) [] sink.written sink.written
-    cut_at end are = record { end = end; requests = are; counted = refl; written = Appends-nil sink.written }
+    cut_at end cuts are = record {
+      requests = record { end = end; are = are; stay = tt; cut = cuts };
+      counted = refl;
+      written = Appends-nil sink.written;
+    }
 
     by_case : (held ++ taken ≡ []) ⊎ IsUnframeable (held ++ taken) Frame → CutShort (suc more) 0 (held ++ taken) [] sink.written sink.written
-    by_case (inl none) = cut_at ended (AreRequests-none (suc more) (held ++ taken) none)
-    by_case (inr is) = cut_at (unframeable (framing_refusal Frame)) (AreRequests-refused more (held ++ taken) Frame is)
+    by_case (inl none) = cut_at ended (inl refl) (AreRequests-none (suc more) (held ++ taken) none)
+    by_case (inr is) = cut_at (unframeable (framing_refusal Frame)) (inr refl) (AreRequests-refused more (held ++ taken) Frame is)
 
 -- No memory was found to read on.
 pub Serves-unread : (s : State) (most : ℕ) (held taken : List ℕ) (source0 source1 : SourceView) (sink : SinkView) (w : World)
@@ -281,8 +285,7 @@ pub Serves-fault_behind : (s : State) (held taken : List ℕ) (source0 source1 :
     → Serves held 0 s SourceFault 0 source0 source1 sink sink w w
 Serves-fault_behind s held taken source0 source1 sink w keeps content none =
     serves_none s 0 SourceFault held taken source0 source1 sink sink w keeps content (record {
-      end = ended;
-      requests = AreRequests-none 0 (held ++ taken) none;
+      requests = record { end = ended; are = AreRequests-none 0 (held ++ taken) none; stay = tt; cut = inl refl };
       counted = refl;
       written = Appends-nil sink.written;
     })

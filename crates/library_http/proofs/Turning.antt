@@ -18,7 +18,7 @@ use Rattle.library_http.specs.declared.serving.How.TheVariants as how
 use Rattle.library_http.specs.declared.serving.Turn.{Turn}
 use Rattle.library_http.specs.declared.serving.Turn.TheVariants.{Answered, Closed, Stopped}
 use Rattle.library_http.specs.Sessions.{Serves}
-use Rattle.library_http.specs.Turns.{Finds, RefusesBy, TurnDoes, TurnsOn}
+use Rattle.library_http.specs.Turns.{Finds, FindsAtLimit, RefusesBy, TakesFinding, TurnDoes, TurnsOn}
 use Rattle.library_http.specs.World.{World}
 use Rattle.library_http.proofs.Served.{Serves-broke, Serves-closed, Serves-ended, Serves-fault, Serves-fault_behind, Serves-refused, Serves-turns, Serves-unread}
 
@@ -28,7 +28,7 @@ BeginsWith-within bytes inbox request begins =
     Frames-within (bytes ++ []) (framed begins.head request) (behind inbox request ++ []) (begins.frames [])
 
 -- what was found where a request was read
-abbrev found : (held inbox held_now : List ℕ) (request : Request) (source0 source1 : SourceView)
+abbrev pub found : (held inbox held_now : List ℕ) (request : Request) (source0 source1 : SourceView)
     → (reads : ReadsNext source0 source1 held inbox (next.Framed request)) → held_now ≡ behind inbox request → Finds held held_now source0 source1
 found held inbox held_now request source0 source1 reads passed = record {
   taken = reads.taken;
@@ -78,16 +78,15 @@ TurnDoes-unread s held inbox held_now source0 source1 sink w keeps reads = λ mo
 -- ---- where as many requests were answered as may be
 
 -- Bytes are held.
-pub Serves-held : (s : State) (held : List ℕ) (source : SourceView) (sink : SinkView) (w : World) → Keeps w.library s → held ≢ []
-    → Serves held 0 s how.Turns 0 source source sink sink w w
-Serves-held s held source sink w keeps some =
-    Serves-turns s held [] source source sink w keeps (Consumes-nil source.left) (λ none. some (sym (append-nil held) ∙ none))
+pub TakesFinding-held : (held : List ℕ) (source : SourceView) → held ≢ [] → TakesFinding held source source (FindsAtLimit how.Turns)
+TakesFinding-held held source some =
+    record { taken = []; content = Consumes-nil source.left; found = λ none. some (sym (append-nil held) ∙ none) }
 
 -- None are held, and one byte was looked for.
-pub Serves-looked : {E : Type 0} (s : State) (held into : List ℕ) (n : ℕ) (source0 source1 : SourceView) (sink : SinkView) (w : World)
-    → Keeps w.library s → held ≡ [] → Reads {E = E} source0 source1 into (Ok n) → n ≢ 0 → Serves held 0 s how.Turns 0 source0 source1 sink sink w w
-Serves-looked {E} s held into n source0 source1 sink w keeps empty reads some =
-    Serves-turns s held (take n into) source0 source1 sink w keeps reads.content.0 (λ none. taken_some (length-of none))
+pub TakesFinding-looked : {E : Type 0} (held into : List ℕ) (n : ℕ) (source0 source1 : SourceView) → held ≡ []
+    → Reads {E = E} source0 source1 into (Ok n) → n ≢ 0 → TakesFinding held source0 source1 (FindsAtLimit how.Turns)
+TakesFinding-looked {E} held into n source0 source1 empty reads some =
+    record { taken = take n into; content = reads.content.0; found = λ none. taken_some (length-of none) }
   where
     length-of : held ++ take n into ≡ [] → length (take n into) ≡ 0
     length-of none = ap length (subst (λ (bytes : List ℕ). bytes ++ take n into ≡ []) empty none)
@@ -95,14 +94,28 @@ Serves-looked {E} s held into n source0 source1 sink w keeps empty reads some =
     taken_some : length (take n into) ≢ 0
     taken_some none = some (sym (length-take-le n into reads.within.0) ∙ none)
 
-pub Serves-looked_end : {E : Type 0} (s : State) (held into : List ℕ) (source0 source1 : SourceView) (sink : SinkView) (w : World)
-    → Keeps w.library s → held ≡ [] → Reads {E = E} source0 source1 into (Ok 0) → 0 < length into
-    → Serves held 0 s how.Ended 0 source0 source1 sink sink w w
-Serves-looked_end {E} s held into source0 source1 sink w keeps empty reads some =
-    Serves-ended s 0 held [] source0 source1 sink w keeps reads.content.0 (append-nil held ∙ empty) (reads.content.1 refl some)
+pub TakesFinding-looked_end : {E : Type 0} (held into : List ℕ) (source0 source1 : SourceView) → held ≡ []
+    → Reads {E = E} source0 source1 into (Ok 0) → 0 < length into → TakesFinding held source0 source1 (FindsAtLimit how.Ended)
+TakesFinding-looked_end {E} held into source0 source1 empty reads some =
+    record { taken = []; content = reads.content.0; found = (append-nil held ∙ empty, reads.content.1 refl some) }
 
-pub Serves-looked_fault : {E : Type 0} (s : State) (held into : List ℕ) (e : E) (source0 source1 : SourceView) (sink : SinkView) (w : World)
-    → Keeps w.library s → held ≡ [] → Reads {E = E} source0 source1 into (Err e) → Serves held 0 s how.SourceFault 0 source0 source1 sink sink w w
-Serves-looked_fault {E} s held into e source0 source1 sink w keeps empty reads =
-    Serves-fault_behind s held [] source0 source1 sink w keeps
-    (Consumes-kept source0.left source0.left source1.left [] (Consumes-nil source0.left) reads.content) (append-nil held ∙ empty)
+pub TakesFinding-looked_fault : {E : Type 0} (held into : List ℕ) (e : E) (source0 source1 : SourceView) → held ≡ []
+    → Reads {E = E} source0 source1 into (Err e) → TakesFinding held source0 source1 (FindsAtLimit how.SourceFault)
+TakesFinding-looked_fault {E} held into e source0 source1 empty reads = record {
+  taken = [];
+  content = Consumes-kept source0.left source0.left source1.left [] (Consumes-nil source0.left) reads.content;
+  found = append-nil held ∙ empty;
+}
+
+-- Serving ends as what was found says.
+pub Serves-limit : (end : How) (s : State) (held : List ℕ) (source0 source1 : SourceView) (sink : SinkView) (w : World) → Keeps w.library s
+    → TakesFinding held source0 source1 (FindsAtLimit end) → Serves held 0 s end 0 source0 source1 sink sink w w
+Serves-limit how.Ended s held source0 source1 sink w keeps takes =
+    Serves-ended s 0 held takes.taken source0 source1 sink w keeps takes.content takes.found.0 takes.found.1
+Serves-limit how.Turns s held source0 source1 sink w keeps takes =
+    Serves-turns s held takes.taken source0 source1 sink w keeps takes.content takes.found
+Serves-limit how.SourceFault s held source0 source1 sink w keeps takes =
+    Serves-fault_behind s held takes.taken source0 source1 sink w keeps takes.content takes.found
+Serves-limit how.Unframeable s held source0 source1 sink w keeps takes = absurd takes.found
+Serves-limit how.SinkFault s held source0 source1 sink w keeps takes = absurd takes.found
+Serves-limit how.Memory s held source0 source1 sink w keeps takes = absurd takes.found

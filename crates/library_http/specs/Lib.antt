@@ -1,4 +1,5 @@
 pub mod Acts
+pub mod Framings
 pub mod Sessions
 pub mod Turns
 pub mod World

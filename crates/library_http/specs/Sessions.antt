@@ -21,6 +21,7 @@ use Rattle.http_inbox.specs.Inboxes.{Covers}
 use Rattle.library_http.specs.declared.serving.How.{How}
 use Rattle.library_http.specs.declared.serving.How.TheVariants.{Ended, Turns, Unframeable, SourceFault, SinkFault, Memory}
 use Rattle.library_http.specs.Acts.{ActInTurn, Counts, Leads, OldKeysKept}
+use Rattle.library_http.specs.Framings.{AreCutShort}
 use Rattle.library_http.specs.World.{World, KeepsFaults}
 
 -- ---- what was done to the library
@@ -61,10 +62,9 @@ pub record Whole (most : ℕ) (end : End) (answered : ℕ) (left : Option (List 
   pub counted : answered ≡ length exchanges
   pub written : Appends old new (output exchanges end)
 
--- The bytes that were taken, as they stand, are these requests, and the replies to them were written.
+-- The bytes that were taken make these requests, none of which closes, as far as they reach. The replies to them were written.
 pub record CutShort (most answered : ℕ) (input : List ℕ) (exchanges : List Exchange) (old new : Option (List ℕ)) : Type 0 where
-  pub end : End
-  pub requests : AreRequests most input (wire.requests_of exchanges) end
+  pub requests : AreCutShort most input (wire.requests_of exchanges)
   pub counted : answered ≡ length exchanges
   pub written : Appends old new (spelled_all exchanges)
 

@@ -1,6 +1,7 @@
 -- What one turn of serving does.
-use Rattle.std.specs.Prelude.{◌≡◌, ◌+◌, ℕ, suc, Bool, true, false, List, [], ◌++◌, Option, Some, None, Result, Ok, Err}
-use Rattle.std.specs.Io.KnownBytes.{Appends, Consumes}
+use Rattle.std.specs.Prelude.{◌≡◌, ◌≢◌, ◌⊎◌, ◌+◌, ℕ, suc, Bool, true, false, List, [], ◌++◌, length, Option, Some, None, Result, Ok, Err, ⊤}
+use Rattle.std.specs.Io.KnownBytes.{Appends, Consumes, IsAtEnd}
+use Rattle.httparse.specs.Grammar.{RequestHead}
 use Rattle.lib_base.specs.Sources.{SourceView}
 use Rattle.lib_base.specs.Writes.{AppendsPart, SinkView}
 use Rattle.lib_base.specs.declared.outcomes.Outside.{Outside}
@@ -11,9 +12,12 @@ use Rattle.library_model.specs.Replies.{refusal}
 use Rattle.library_model.specs.State.{State}
 use Rattle.http_model.specs.Asking.{asked_of}
 use Rattle.http_model.specs.declared.refusals.FramingRefusal.{FramingRefusal}
+use Rattle.http_model.specs.declared.refusals.FramingRefusal.TheVariants.{Frame}
 use Rattle.http_model.specs.Exchanges.{spelled_to, ending}
 use Rattle.http_model.specs.Refusals.{framing_refusal}
-use Rattle.http_model.specs.Requests.{Framed, Frames, closes, unframeable}
+use Rattle.http_model.specs.Requests as model
+use Rattle.http_model.specs.Requests.{Framed, Frames, IsUnframeable, closes, unframeable}
+use Rattle.http_inbox.specs.Inboxes.{Covers}
 use Rattle.keeper_store.specs.Keepers.{KeeperView}
 use Rattle.keeper_store.specs.Vaults.{VaultView}
 use Rattle.catalogue_core.specs.declared.libraries.Library.{Library}
@@ -26,6 +30,7 @@ use Rattle.library_http.specs.declared.serving.How.TheVariants as how
 use Rattle.library_http.specs.declared.serving.Turn.{Turn}
 use Rattle.library_http.specs.declared.serving.Turn.TheVariants.{Answered, Closed, Stopped}
 use Rattle.library_http.specs.Acts.{Acts}
+use Rattle.library_http.specs.Framings.{AllStay}
 use Rattle.library_http.specs.Sessions.{Serves, Session}
 use Rattle.library_http.specs.World.{World}
 
@@ -75,6 +80,61 @@ pub record Finds (held held_now : List ℕ) (source_before source_now : SourceVi
   pub content : Consumes source_before.left source_now.left taken
   pub framed : Framed
   pub frames : (more : List ℕ) → Frames ((held ++ taken) ++ more) framed (held_now ++ more)
+
+-- ---- what is found, whatever the library holds
+
+-- what a turn found, that stopped so, of what was held and taken: nothing, what can't be framed, nothing or what can't be framed as it is,
+-- or anything
+abbrev pub FindsNone : How → Option (List ℕ) → List ℕ → Type 0
+FindsNone how.Ended left bytes = (bytes ≡ []) × IsAtEnd left
+FindsNone how.Unframeable left bytes = (cause : FramingRefusal) × Covers left bytes (λ b. IsUnframeable b cause)
+FindsNone how.Turns left bytes = ⊥
+FindsNone how.SourceFault left bytes = (bytes ≡ []) ⊎ IsUnframeable bytes Frame
+FindsNone how.SinkFault left bytes = ⊤
+FindsNone how.Memory left bytes = ⊤
+
+-- what was found where as many requests were answered as may be: nothing, a byte more, or nothing before a fault
+abbrev pub FindsAtLimit : How → Option (List ℕ) → List ℕ → Type 0
+FindsAtLimit how.Ended left bytes = (bytes ≡ []) × IsAtEnd left
+FindsAtLimit how.Unframeable left bytes = ⊥
+FindsAtLimit how.Turns left bytes = bytes ≢ []
+FindsAtLimit how.SourceFault left bytes = bytes ≡ []
+FindsAtLimit how.SinkFault left bytes = ⊥
+FindsAtLimit how.Memory left bytes = ⊥
+
+-- Bytes were taken behind those that were held, and this was found of them.
+pub record TakesFinding (held : List ℕ) (source_before source_now : SourceView) (Found : Option (List ℕ) → List ℕ → Type 0) : Type 0 where
+  pub taken : List ℕ
+  pub content : Consumes source_before.left source_now.left taken
+  pub found : Found source_now.left (held ++ taken)
+
+-- whether the request closes that a turn framed and answered
+abbrev pub ClosesAs : Turn → RequestHead → Type 0
+ClosesAs Answered head = closes head ≡ false
+ClosesAs Closed head = closes head ≡ true
+ClosesAs (Stopped how.SinkFault) head = ⊤
+ClosesAs (Stopped how.Memory) head = ⊤
+ClosesAs (Stopped _) head = ⊥
+
+-- what a turn finds: a request that stays, one that closes, or what stops it
+abbrev pub TurnFinds : Turn → (held held_now : List ℕ) → SourceView → SourceView → Type 0
+TurnFinds Answered held held_now source_before source_now =
+    (finds : Finds held held_now source_before source_now) × (closes finds.framed.head ≡ false)
+TurnFinds Closed held held_now source_before source_now =
+    (finds : Finds held held_now source_before source_now) × (closes finds.framed.head ≡ true)
+TurnFinds (Stopped end) held held_now source_before source_now = TakesFinding held source_before source_now (FindsNone end)
+
+-- Of what was taken these requests were passed, none of which closes, and what is held is behind them. Of the most that are answered, so
+-- many more are.
+pub record Passed (most more answered : ℕ) (held : List ℕ) (source_before source_now : SourceView) : Type 0 where
+  pub taken : List ℕ
+  pub content : Consumes source_before.left source_now.left taken
+  pub requests : List Framed
+  pub counted : answered ≡ length requests
+  pub stay : AllStay requests
+  pub so_far : model.SoFar most more taken held requests
+
+-- ---- what is done
 
 -- A request was framed, which does not close, and it was answered from s, and its reply was written.
 pub record GoesOn (s : State) (held held_now : List ℕ) (source_before source_now : SourceView) (sink_before sink_now : SinkView)

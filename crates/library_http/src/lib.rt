@@ -12,3 +12,6 @@ mod changing;
 mod serving;
 
 pub use serving::{How, SessionEnd, session};
+
+#[cfg(test)]
+mod tests;

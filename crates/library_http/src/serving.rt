@@ -2,7 +2,6 @@
 ghost use Rattle.std.specs.Prelude.{◌≡◌, ◌≢◌, ◌≤◌, ◌<◌, ℕ, []};
 ghost use Rattle.httparse.specs.Grammar.{RequestHead};
 ghost use Rattle.lib_base.specs.Faults.{CountsFault};
-ghost use Rattle.lib_base.specs.Writes.{SinkView};
 ghost use Rattle.library_model.specs.Stands.{IsWithinLimit};
 ghost use Rattle.library_model.specs.State.{State};
 ghost use Rattle.http_inbox.specs.Heads.{IsHeadingOf};
@@ -10,10 +9,11 @@ ghost use Rattle.http_inbox.specs.Nexts.{behind, framed};
 ghost use Rattle.http_asking.specs.Asked.{HasHeading};
 ghost use Rattle.catalogue_core.specs.Kept.{Keeps};
 ghost use Rattle.measure_pool.specs.declared.plans.TheConstants.{MOST_WORKERS};
-ghost use Rattle.library_http.specs.Sessions.{Session, Serves, CountsFaults};
+ghost use Rattle.library_http.specs.Framings.{IsFramed};
+ghost use Rattle.library_http.specs.Sessions.{Session, CountsFaults};
 ghost use Rattle.library_http.specs.Turns as turns;
-ghost use Rattle.library_http.specs.Turns.{RefusesBy, TurnDoes, TurnsOn};
-ghost use Rattle.library_http.specs.World.{World, KeepsFaults, world};
+ghost use Rattle.library_http.specs.Turns.{ClosesAs, FindsAtLimit, RefusesBy, TakesFinding, TurnDoes, TurnFinds, TurnsOn};
+ghost use Rattle.library_http.specs.World.{KeepsFaults, world};
 
 use crate::answering::{answer, write_given};
 use catalogue_core::Library;
@@ -91,6 +91,7 @@ pub fn session<R: Threads + Sync, S: Source, K: Sink, D: Keeper, V: Vault>(
         (S.shown source.old) (S.shown source.new) (K.shown sink.old) (K.shown sink.new)
         (world library.old (D.shown keeper.old) (V.shown vault.old))
         (world library.new (D.shown keeper.new) (V.shown vault.new)) }
+    ensures framed { IsFramed result.how requests result.answered (S.shown source.old) (S.shown source.new) }
     ensures faults { CountsFaults result.how (S.shown source.old) (S.shown source.new) (K.shown sink.old) (K.shown sink.new)
         (world library.old (D.shown keeper.old) (V.shown vault.old))
         (world library.new (D.shown keeper.new) (V.shown vault.new)) }
@@ -143,6 +144,7 @@ fn serve<R: Threads + Sync, S: Source, K: Sink, D: Keeper, V: Vault, L: Ledger>(
         (S.shown source.old) (S.shown source.new) (K.shown sink.old) (K.shown sink.new)
         (world library.old (D.shown keeper.old) (V.shown vault.old))
         (world library.new (D.shown keeper.new) (V.shown vault.new)) }
+    ensures framed { IsFramed result.how requests result.answered (S.shown source.old) (S.shown source.new) }
     ensures faults { CountsFaults result.how (S.shown source.old) (S.shown source.new) (K.shown sink.old) (K.shown sink.new)
         (world library.old (D.shown keeper.old) (V.shown vault.old))
         (world library.new (D.shown keeper.new) (V.shown vault.new)) }
@@ -172,8 +174,7 @@ fn serve<R: Threads + Sync, S: Source, K: Sink, D: Keeper, V: Vault, L: Ledger>(
 
 /// Ends a session that answered as many requests as it may: it looks for one byte more.
 fn end_at_limit<S: Source>(inbox: &Inbox, source: &mut S) -> How
-    ensures ends { (s : State) (sink : SinkView) (w : World) → Keeps w.library s
-        → Serves inbox.now 0 s result 0 (S.shown source.old) (S.shown source.new) sink sink w w }
+    ensures takes { TakesFinding inbox.now (S.shown source.old) (S.shown source.new) (FindsAtLimit result) }
     ensures cause { CountsFault (result ≡ How.SourceFault) (S.shown source.old).faults (S.shown source.new).faults }
     ensures sink { result ≢ How.SinkFault }
 {
@@ -207,6 +208,7 @@ fn serve_one<R: Threads + Sync, S: Source, K: Sink, D: Keeper, V: Vault, L: Ledg
         (S.shown source.old) (S.shown source.new) (K.shown sink.old) (K.shown sink.new)
         (world library.old (D.shown keeper.old) (V.shown vault.old))
         (world library.new (D.shown keeper.new) (V.shown vault.new)) }
+    ensures finds { TurnFinds result inbox.old inbox.new (S.shown source.old) (S.shown source.new) }
     ensures source { CountsFault (result ≡ Turn.Stopped How.SourceFault) (S.shown source.old).faults (S.shown source.new).faults }
     ensures sink { CountsFault (result ≡ Turn.Stopped How.SinkFault) (K.shown sink.old).faults (K.shown sink.new).faults }
     ensures later { KeepsFaults (world library.old (D.shown keeper.old) (V.shown vault.old))
@@ -245,6 +247,7 @@ fn serve_request<R: Threads + Sync, K: Sink, D: Keeper, V: Vault, L: Ledger>(
         → TurnsOn result s (framed head request) (K.shown sink.old) (K.shown sink.new)
         (world library.old (D.shown keeper.old) (V.shown vault.old))
         (world library.new (D.shown keeper.new) (V.shown vault.new)) }
+    ensures shuts { (head : RequestHead) → IsHeadingOf inbox.old request.heading head → ClosesAs result head }
     ensures passed { inbox.new ≡ behind inbox.old request }
     ensures source { result ≢ Turn.Stopped How.SourceFault }
     ensures sink { CountsFault (result ≡ Turn.Stopped How.SinkFault) (K.shown sink.old).faults (K.shown sink.new).faults }

@@ -5,6 +5,7 @@ use Rattle.std.specs.Io.KnownBytes.{Consumes}
 use Rattle.cli_words.specs.Commands.{command_of}
 use Rattle.cli_words.specs.declared.commands.Command.{Command}
 use Rattle.cli_words.specs.declared.commands.Command.TheVariants as command
+use Rattle.lib_base.specs.Sources.{SourceView}
 use Rattle.lib_base.specs.Writes.{SinkView}
 use Rattle.keeper_store.specs.Goes.{Goes}
 use Rattle.keeper_store.specs.declared.contents.Tables.{Tables}
@@ -12,7 +13,6 @@ use Rattle.library_model.specs.declared.bad_rows.BadRow.{BadRow}
 use Rattle.library_model.specs.RowRules.{IsFirstBad, IsFirstWithout}
 use Rattle.library_model.specs.Stands.{IsValid, tables_of}
 use Rattle.library_model.specs.State.{State}
-use Rattle.http_model.specs.Exchanges.{Exchange, requests_of}
 use Rattle.http_model.specs.Refusals.{framing_refusal}
 use Rattle.http_model.specs.Requests.{Framed, End, ended, turns, unframeable, AreRequests, RequestsOf}
 use Rattle.http_inbox.proofs.CoversLaws.{Covers-told}
@@ -23,13 +23,12 @@ use Rattle.catalogue_core.specs.Kept.{Holds, Keeps}
 use Rattle.catalogue_core.specs.Opening.{IsOpened, OpensOver}
 use Rattle.library_http.specs.declared.serving.How.{How}
 use Rattle.library_http.specs.declared.serving.How.TheVariants as how
-use Rattle.library_http.specs.Sessions.{EndsAs, Session}
-use Rattle.library_http.specs.World.{World}
+use Rattle.library_http.specs.Framings.{FramesAs, IsFramed}
 use Rattle.report_cli.specs.declared.statuses.Status.{Status}
 use Rattle.report_cli.specs.declared.statuses.Status.TheVariants as status
-use Rattle.report_cli.specs.Connections.{Connection, SessionOf, ServeInTurn, EndsWith, EndsByBytes, IsEnd}
+use Rattle.report_cli.specs.Connections.{Connection, EndsWith, EndsByBytes, FramedOf, IsEnd}
 use Rattle.report_cli.specs.Lines.{Prints, IsBrokenOff, usage_line, bad_row_line}
-use Rattle.report_cli.specs.Running.{Course, unread, not_a_command, not_opened, answered, served, Runs, CarriesOut, Opened, SessionRan, IsCommand, IsSession, IsFixed, IsFixedOver, IsOfEnd, HasBadRow, status_at}
+use Rattle.report_cli.specs.Running.{Course, unread, not_a_command, not_opened, answered, served, Runs, CarriesOut, Opened, SessionRan, IsCommand, HasFurther, IsFixed, IsFixedOver, IsOfEnd, HasBadRow, status_at}
 use Rattle.report_cli.specs.Seen.{Seen}
 use Rattle.report_cli.specs.Statuses.{code, status_of}
 
@@ -129,34 +128,32 @@ for_left None P h = tt
 for_left (Some input) P h = h input refl
 
 -- the end of a session is that of the requests in what its source held
-end_told : (h : How) (n count : ℕ) (before left : Option (List ℕ)) (input taken : List ℕ) (exchanges : List Exchange)
-    (old new : Option (List ℕ)) → before ≡ Some input → Consumes before left taken → EndsAs h n count left taken exchanges old new
-    → (asked : List Framed) (end : End) → RequestsOf n input asked end → IsEnd h end
-end_told how.Ended n count before left input taken exchanges old new told content ends asked end are =
-    ((Covers-told before left input taken (λ b. AreRequests n b (requests_of exchanges) ended) told content ends.requests).only asked end are).1
-end_told how.Turns n count before left input taken exchanges old new told content ends asked end are =
-    ((Covers-told before left input taken (λ b. AreRequests n b (requests_of exchanges) turns) told content ends.requests).only asked end are).1
-end_told how.Unframeable n count before left input taken exchanges old new told content (cause, ends) asked end are = (
+end_told : (h : How) (n : ℕ) (before left : Option (List ℕ)) (input taken : List ℕ) (requests : List Framed) → before ≡ Some input
+    → Consumes before left taken → FramesAs h n left taken requests → (asked : List Framed) (end : End) → RequestsOf n input asked end
+    → IsEnd h end
+end_told how.Ended n before left input taken requests told content ends asked end are =
+    ((Covers-told before left input taken (λ b. AreRequests n b requests ended) told content ends).only asked end are).1
+end_told how.Turns n before left input taken requests told content ends asked end are =
+    ((Covers-told before left input taken (λ b. AreRequests n b requests turns) told content ends).only asked end are).1
+end_told how.Unframeable n before left input taken requests told content (cause, ends) asked end are = (
   cause,
-  ((Covers-told before left input taken (λ b. AreRequests n b (requests_of exchanges) (unframeable (framing_refusal cause))) told content
-      ends.requests).only asked end are).1,
+  ((Covers-told before left input taken (λ b. AreRequests n b requests (unframeable (framing_refusal cause))) told content ends).only asked end
+      are).1,
 )
-end_told how.SourceFault n count before left input taken exchanges old new told content ends asked end are = tt
-end_told how.SinkFault n count before left input taken exchanges old new told content ends asked end are = tt
-end_told how.Memory n count before left input taken exchanges old new told content ends asked end are = tt
+end_told how.SourceFault n before left input taken requests told content ends asked end are = tt
+end_told how.SinkFault n before left input taken requests told content ends asked end are = tt
+end_told how.Memory n before left input taken requests told content ends asked end are = tt
 
 -- a connection ended as the requests of its bytes do
-by_bytes : (n : ℕ) (s : State) (c : Connection) (w0 w1 : World) → SessionOf n s c w0 w1 → EndsByBytes n c
-by_bytes n s c w0 w1 session =
-    for_left c.source.left _ (λ input told. end_told c.how n c.answered c.source.left c.source_now.left input session.taken session.exchanges
-    c.sink.written c.sink_now.written told session.content session.ends)
+by_bytes : (n : ℕ) (c : Connection) → FramedOf n c → EndsByBytes n c
+by_bytes n c framed =
+    for_left c.source.left _ (λ input told. end_told c.how n c.source.left c.source_now.left input framed.taken framed.requests told
+    framed.content framed.ends)
 
--- Connections that were served in order ended so.
-pub all_by_bytes : (n : ℕ) (s last : State) (cs : List Connection) (w0 w1 : World) → ServeInTurn n s cs last w0 w1
-    → AllByRecursion (EndsByBytes n) cs
-all_by_bytes n s last [] w0 w1 in_turn = tt
-all_by_bytes n s last (c ∷ cs) w0 w1 (mid, session, rest) =
-    (by_bytes n s c w0 mid session, all_by_bytes n session.made.last last cs mid w1 rest)
+-- Connections ended so.
+pub all_by_bytes : (n : ℕ) (cs : List Connection) → AllByRecursion (FramedOf n) cs → AllByRecursion (EndsByBytes n) cs
+all_by_bytes n [] framed = tt
+all_by_bytes n (c ∷ cs) framed = (by_bytes n c framed.0, all_by_bytes n cs framed.1)
 
 -- ---- the status that is fixed
 
@@ -167,42 +164,30 @@ printed_status line meant sink0 sink1 n (inl whole) sink = inr whole.0
 printed_status line meant sink0 sink1 n (inr (broken, part)) sink = elim broken [ inl fault ↦ absurd (sink fault) | inr memory ↦ inl memory ]
 
 -- the status of a session, by how it ended
-ended_status : (h : How) (n count : ℕ) (before left : Option (List ℕ)) (input taken : List ℕ) (exchanges : List Exchange)
-    (old new : Option (List ℕ)) (m : ℕ) → m ≡ code (status_of h) → m ≢ code status.SourceFault → m ≢ code status.SinkFault
-    → m ≢ code status.Memory → before ≡ Some input → Consumes before left taken → EndsAs h n count left taken exchanges old new
-    → IsOfEnd n input m
-ended_status how.Ended n count before left input taken exchanges old new m is source sink memory told content ends = (
-  requests_of exchanges,
-  ended,
-  Covers-told before left input taken (λ b. AreRequests n b (requests_of exchanges) ended) told content ends.requests,
-  is,
-)
-ended_status how.Turns n count before left input taken exchanges old new m is source sink memory told content ends = (
-  requests_of exchanges,
-  turns,
-  Covers-told before left input taken (λ b. AreRequests n b (requests_of exchanges) turns) told content ends.requests,
-  is,
-)
-ended_status how.Unframeable n count before left input taken exchanges old new m is source sink memory told content (cause, ends) = (
-  requests_of exchanges,
+ended_status : (h : How) (n : ℕ) (before left : Option (List ℕ)) (input taken : List ℕ) (requests : List Framed) (m : ℕ)
+    → m ≡ code (status_of h) → m ≢ code status.SourceFault → m ≢ code status.SinkFault → m ≢ code status.Memory → before ≡ Some input
+    → Consumes before left taken → FramesAs h n left taken requests → IsOfEnd n input m
+ended_status how.Ended n before left input taken requests m is source sink memory told content ends =
+    (requests, ended, Covers-told before left input taken (λ b. AreRequests n b requests ended) told content ends, is)
+ended_status how.Turns n before left input taken requests m is source sink memory told content ends =
+    (requests, turns, Covers-told before left input taken (λ b. AreRequests n b requests turns) told content ends, is)
+ended_status how.Unframeable n before left input taken requests m is source sink memory told content (cause, ends) = (
+  requests,
   unframeable (framing_refusal cause),
-  Covers-told before left input taken (λ b. AreRequests n b (requests_of exchanges) (unframeable (framing_refusal cause))) told content
-      ends.requests,
+  Covers-told before left input taken (λ b. AreRequests n b requests (unframeable (framing_refusal cause))) told content ends,
   is,
 )
-ended_status how.SourceFault n count before left input taken exchanges old new m is source sink memory told content ends = absurd (source is)
-ended_status how.SinkFault n count before left input taken exchanges old new m is source sink memory told content ends = absurd (sink is)
-ended_status how.Memory n count before left input taken exchanges old new m is source sink memory told content ends = absurd (memory is)
+ended_status how.SourceFault n before left input taken requests m is source sink memory told content ends = absurd (source is)
+ended_status how.SinkFault n before left input taken requests m is source sink memory told content ends = absurd (sink is)
+ended_status how.Memory n before left input taken requests m is source sink memory told content ends = absurd (memory is)
 
 -- the status of a session that ran, where memory was not wanting
-session_status : (n : ℕ) (h : How) (count m : ℕ) (workers : ℕ) (tables : Tables) (library : Library) (before now : Seen)
-    → SessionRan n h count tables library before now → m ≡ code (status_of h) → m ≢ code status.SourceFault → m ≢ code status.SinkFault
-    → m ≢ code status.Memory → IsFixedOver (command.Session workers n) before.source.left tables m
-session_status n h count m workers tables library before now ran is source sink memory =
-    for_left before.source.left _ (λ input told s valid rows.
-    let session = ran.session s valid rows in
-    ended_status h n count before.source.left now.source.left input session.taken session.exchanges before.sink.written now.sink.written m
-    is source sink memory told session.content session.ends)
+session_status : (n : ℕ) (h : How) (count m : ℕ) (workers : ℕ) (before now : SourceView) → IsFramed h n count before now
+    → m ≡ code (status_of h) → m ≢ code status.SourceFault → m ≢ code status.SinkFault → m ≢ code status.Memory
+    → IsFixedOver (command.Session workers n) before.left m
+session_status n h count m workers before now framed is source sink memory =
+    for_left before.left _ (λ input told.
+    ended_status h n before.left now.left input framed.taken framed.requests m is source sink memory told framed.content framed.ends)
 
 -- memory was wanting, or not
 wanting : (h : How) (m : ℕ) (P : Type 0) → m ≡ code (status_of h) → (m ≢ code status.Memory → P) → (m ≡ code status.Memory) ⊎ P
@@ -255,8 +240,8 @@ fixed_status (not_opened (refusal.BadRow bad)) words before now m runs source si
 fixed_status (answered h count) words before now m (workers, n, is, opened, end) source sink keeper door =
     wanting h m _ end (λ memory.
     let same = ap (λ (v : _). v.left) opened.opens.source in
-    let fixed = session_status n h count m workers opened.is_opened.tables opened.library opened.opened now opened.ran end source sink memory in
-    let at_first = subst (λ l. IsFixedOver (command.Session workers n) l opened.is_opened.tables m) same fixed in
+    let fixed = session_status n h count m workers opened.opened.source now.source opened.ran.framed end source sink memory in
+    let at_first = subst (λ l. IsFixedOver (command.Session workers n) l m) same fixed in
     subst (λ o. IsFixed o before.source.left before.keeper.tables m) (sym is)
     (of_loaded before.keeper.tables _ opened.is_opened.tables opened.is_opened.loaded (inr (opened.is_opened.unbroken, at_first))))
 fixed_status (served end connections) words before now m (count, workers, n, is, opened, end_is) source sink keeper door =
@@ -313,9 +298,22 @@ serving_unturned status.KeeperFault count connections old new n ends end is = ab
 serving_unturned status.BadRow count connections old new n ends end is = absurd ends
 serving_unturned status.Turns count connections old new n ends end is = absurd ends
 
--- Only a session has the status of a further request.
+-- a session that ended with a request left has one left in its input
+turned : (h : How) (n count : ℕ) (workers : ℕ) (before now : SourceView) → IsFramed h n count before now
+    → code (status_of h) ≡ code status.Turns → HasFurther (command.Session workers n) before.left
+turned how.Turns n count workers before now framed is =
+    for_left before.left _ (λ input told.
+    (framed.requests, Covers-told before.left now.left input framed.taken (λ b. AreRequests n b framed.requests turns) told framed.content
+    framed.ends))
+turned how.Ended n count workers before now framed is = absurd (omega (arith, is))
+turned how.Unframeable n count workers before now framed is = absurd (omega (arith, is))
+turned how.SourceFault n count workers before now framed is = absurd (omega (arith, is))
+turned how.SinkFault n count workers before now framed is = absurd (omega (arith, is))
+turned how.Memory n count workers before now framed is = absurd (omega (arith, is))
+
+-- Only a session whose input goes on has the status of a further request.
 pub turns_of_session : (course : Course) (words : List (List ℕ)) (before now : Seen) (n : ℕ) → Runs course words before now n
-    → n ≡ code status.Turns → (done : Command) × (command_of words ≡ Some done) × IsSession done
+    → n ≡ code status.Turns → (done : Command) × (command_of words ≡ Some done) × HasFurther done before.source.left
 turns_of_session unread words before now n runs is = absurd (omega (arith, runs.2, is))
 turns_of_session not_a_command words before now n runs is =
     absurd (unturned usage_line status.Usage before.sink now.sink n runs.2 is (λ e. omega (arith, e)))
@@ -324,20 +322,25 @@ turns_of_session (not_opened refusal.Memory) words before now n runs is = absurd
 turns_of_session (not_opened (refusal.BadRow bad)) words before now n runs is =
     absurd (unturned (bad_row_line bad) status.BadRow before.sink now.sink n runs.3 is (λ e. omega (arith, e)))
 turns_of_session (answered h count) words before now n (workers, requests, done, opened, end) is =
-    (command.Session workers requests, done, tt)
+    let same = ap (λ (v : SourceView). v.left) opened.opens.source in (
+      command.Session workers requests,
+      done,
+      subst (HasFurther (command.Session workers requests)) same
+          (turned h requests count workers opened.opened.source now.source opened.ran.framed (sym end ∙ is)),
+    )
 turns_of_session (served end connections) words before now n (count, workers, requests, done, opened, end_is) is =
     absurd (serving_unturned end count connections opened.opened.sink.written now.sink.written n opened.ran.lines end_is is)
 
--- Words, an input and the tables of a valid state fix one status.
-pub IsFixed-unique : (o : Option Command) (input : List ℕ) (s : State) (m n : ℕ) → IsValid s → IsFixed o (Some input) (Some (tables_of s)) m
-    → IsFixed o (Some input) (Some (tables_of s)) n → m ≡ n
-IsFixed-unique None input s m n valid x y = x ∙ sym y
-IsFixed-unique (Some done) input s m n valid (inl x) (inl y) = x.1 ∙ sym y.1
-IsFixed-unique (Some done) input s m n valid (inl x) (inr y) = absurd (none_bad (tables_of s) y.0 x.0)
-IsFixed-unique (Some done) input s m n valid (inr x) (inl y) = absurd (none_bad (tables_of s) x.0 y.0)
-IsFixed-unique (Some (command.Serve count workers requests)) input s m n valid (inr x) (inr y) = x.1 ∙ sym y.1
-IsFixed-unique (Some (command.Session workers requests)) input s m n valid (inr x) (inr y) =
-    let one : IsOfEnd requests input m = x.1 s valid refl in
-    let other : IsOfEnd requests input n = y.1 s valid refl in
+-- Words, an input and tables fix one status.
+pub IsFixed-unique : (o : Option Command) (input : List ℕ) (t : Tables) (m n : ℕ) → IsFixed o (Some input) (Some t) m
+    → IsFixed o (Some input) (Some t) n → m ≡ n
+IsFixed-unique None input t m n x y = x ∙ sym y
+IsFixed-unique (Some done) input t m n (inl x) (inl y) = x.1 ∙ sym y.1
+IsFixed-unique (Some done) input t m n (inl x) (inr y) = absurd (none_bad t y.0 x.0)
+IsFixed-unique (Some done) input t m n (inr x) (inl y) = absurd (none_bad t x.0 y.0)
+IsFixed-unique (Some (command.Serve count workers requests)) input t m n (inr x) (inr y) = x.1 ∙ sym y.1
+IsFixed-unique (Some (command.Session workers requests)) input t m n (inr x) (inr y) =
+    let one : IsOfEnd requests input m = x.1 in
+    let other : IsOfEnd requests input n = y.1 in
     let same = other.2.only one.0 one.1 one.2.are in
     one.3 ∙ ap (λ (e : End). code (status_at e)) same.1 ∙ sym other.3

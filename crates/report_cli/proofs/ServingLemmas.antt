@@ -19,7 +19,7 @@ use Rattle.library_http.specs.Sessions.{AppendsInPart, CountsFaults}
 use Rattle.library_http.specs.World.{World, KeepsFaults, RoseBy}
 use Rattle.report_cli.specs.declared.statuses.Status.{Status}
 use Rattle.report_cli.specs.declared.statuses.Status.TheVariants as status
-use Rattle.report_cli.specs.Connections.{Connection, SessionOf, ServeInTurn, ServeFrom, Serves, HandsBack, LosesAll, GainsAll, BeginsEmpty, fault_of_source, fault_of_sink, source_fault, sink_fault, lines_from, line_of, LastInPart, EndsWith, TurnWrites}
+use Rattle.report_cli.specs.Connections.{Connection, SessionOf, ServeInTurn, ServeFrom, Serves, FramedOf, HandsBack, LosesAll, GainsAll, BeginsEmpty, fault_of_source, fault_of_sink, source_fault, sink_fault, lines_from, line_of, LastInPart, EndsWith, TurnWrites}
 
 -- ---- what is told
 
@@ -133,6 +133,7 @@ serves_both n cs ds d0 d1 d2 w0 w1 w2 p q = record {
         in_turn = turns_both n s first.last second.last cs ds w0 w1 w2 first.in_turn second.in_turn;
         leads = leads_both s first.last second.last w0 w1 w2 first.leads second.leads;
       };
+  framed = all_both (FramedOf n) cs ds p.framed q.framed;
   door = hands_both cs ds d0 d1 d2 p.door q.door;
   faults = record {
     of_keeper = omega (arith, p.faults.of_keeper, q.faults.of_keeper);
@@ -226,11 +227,12 @@ handed c d0 d1 d2 w0 w1 given ends counts = record {
 -- A connection that the door gave and took back, over whose halves a session ran, was served.
 pub one_served : (n : ℕ) (c : Connection) (d0 d1 d2 : DoorView) (w0 w1 : World) → Given c.source c.sink d0 d1
     → EndsConnection c.source_now c.sink_now d1 d2 → CountsFaults c.how c.source c.source_now c.sink c.sink_now w0 w1
-    → ((s : State) → Keeps w0.library s → SessionOf n s c w0 w1) → Serves n (c ∷ []) d0 d2 w0 w1
-one_served n c d0 d1 d2 w0 w1 given ends counts session = record {
+    → ((s : State) → Keeps w0.library s → SessionOf n s c w0 w1) → FramedOf n c → Serves n (c ∷ []) d0 d2 w0 w1
+one_served n c d0 d1 d2 w0 w1 given ends counts session framed = record {
   from = λ s keeps.
       let ran = session s keeps in
       record { last = ran.made.last; in_turn = (w1, ran, (refl, refl)); leads = ran.made.leads };
+  framed = (framed, tt);
   door = handed c d0 d1 d2 w0 w1 given ends counts;
   faults = counts.others;
 }
@@ -249,6 +251,7 @@ none_served n d0 d1 w hands = record {
     in_turn = (refl, refl);
     leads = record { keeps = keeps; rows = stays _ w.keeper.tables; files = stays _ w.vault.blobs };
   };
+  framed = tt;
   door = hands;
   faults = record { of_keeper = omega arith; of_vault = omega arith };
 }

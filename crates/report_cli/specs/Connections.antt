@@ -14,6 +14,7 @@ use Rattle.catalogue_core.specs.Kept.{Keeps}
 use Rattle.library_http.specs.declared.serving.How.{How}
 use Rattle.library_http.specs.declared.serving.How.TheVariants as how
 use Rattle.library_http.specs.Acts.{Leads}
+use Rattle.library_http.specs.Framings.{IsFramed}
 use Rattle.library_http.specs.Sessions.{Session, AppendsInPart}
 use Rattle.library_http.specs.World.{World, KeepsFaults, RoseBy}
 use Rattle.report_cli.specs.declared.statuses.Status.{Status}
@@ -137,11 +138,16 @@ abbrev pub EndsByBytes : ℕ → Connection → Type 0
 EndsByBytes requests c =
     IfSome c.source.left (λ input. (asked : List Framed) (end : End) → RequestsOf requests input asked end → IsEnd c.how end)
 
+-- what the session of a connection, of at most so many requests, framed of what its source held
+abbrev pub FramedOf : ℕ → Connection → Type 0
+FramedOf requests c = IsFramed c.how requests c.answered c.source c.source_now
+
 -- ---- what serving does
 
--- Serving these connections does this from each state that the library keeps.
+-- Serving these connections does this from each state that the library keeps, and frames this whatever it keeps.
 pub record Serves (requests : ℕ) (connections : List Connection) (door_before door_now : DoorView) (before now : World) : Type 0 where
   pub from : (s : State) → Keeps before.library s → ServeFrom requests s connections before now
+  pub framed : AllByRecursion (FramedOf requests) connections
   pub door : HandsBack connections door_before door_now
   pub faults : KeepsFaults before now
 

@@ -16,10 +16,11 @@ use Rattle.catalogue_core.specs.declared.libraries.OpenRefusal.{OpenRefusal}
 use Rattle.catalogue_core.specs.declared.libraries.OpenRefusal.TheVariants as refusal
 use Rattle.catalogue_core.specs.Opening.{IsOpened}
 use Rattle.library_http.specs.declared.serving.How.{How}
+use Rattle.library_http.specs.Framings.{IsFramed}
 use Rattle.library_http.specs.Sessions.{Session}
 use Rattle.report_cli.specs.declared.statuses.Status.{Status}
 use Rattle.report_cli.specs.declared.statuses.Status.TheVariants as status
-use Rattle.report_cli.specs.Connections.{Connection, ServeFrom, HandsBack, EndsWith, EndsByBytes}
+use Rattle.report_cli.specs.Connections.{Connection, ServeFrom, HandsBack, EndsWith, EndsByBytes, FramedOf}
 use Rattle.report_cli.specs.Lines.{usage_line, bad_row_line, Prints, IsBrokenOff}
 use Rattle.report_cli.specs.Seen.{Seen, world_of, Leaves}
 use Rattle.report_cli.specs.Statuses.{code, status_of}
@@ -27,21 +28,24 @@ use Rattle.report_cli.specs.Statuses.{code, status_of}
 -- ---- the commands
 
 -- A session of at most so many requests over a library ran, and ended so, with so many requests answered whole. It ran from each valid
--- state that has these tables; there is one at most, if the blobs are told too.
+-- state that has these tables; there is one at most, if the blobs are told too. What it framed is so whatever the tables are.
 pub record SessionRan (requests : ℕ) (how : How) (answered : ℕ) (tables : Tables) (library : Library) (before now : Seen) : Type 0 where
   pub library_now : Library
   pub session : (s : State) → IsValid s → tables ≡ tables_of s → Session requests s how answered before.source now.source
       before.sink now.sink (world_of library before) (world_of library_now now)
+  pub framed : IsFramed how requests answered before.source now.source
   pub door : now.door ≡ before.door
 
 -- These connections were served over a library, of so many that were to be, with at most so many requests each, and it ended so. They
--- were served from each valid state that has these tables.
+-- were served from each valid state that has these tables. What their sessions framed, and so how they ended, is so whatever the tables
+-- are.
 pub record ServingRan (count requests : ℕ) (end : Status) (connections : List Connection) (tables : Tables) (library : Library)
     (before now : Seen) : Type 0 where
   pub library_now : Library
   pub serves : (s : State) → IsValid s → tables ≡ tables_of s
       → ServeFrom requests s connections (world_of library before) (world_of library_now now)
-  pub ends : (s : State) → IsValid s → tables ≡ tables_of s → AllByRecursion (EndsByBytes requests) connections
+  pub framed : AllByRecursion (FramedOf requests) connections
+  pub ends : AllByRecursion (EndsByBytes requests) connections
   pub door : HandsBack connections before.door now.door
   pub lines : EndsWith end count connections before.sink.written now.sink.written
   pub source : now.source ≡ before.source
@@ -116,29 +120,28 @@ HasBadRow tables = (bad : BadRow) × IsFirstBad tables (Some bad)
 abbrev pub IsOfEnd : ℕ → List ℕ → ℕ → Type 0
 IsOfEnd requests input n = (asked : List Framed) × (end : End) × AreRequests requests input asked end × (n ≡ code (status_at end))
 
--- The status of a command over tables of which no row breaks a rule: that of the end of the input for a session, where the tables are
--- those of a valid state, and 0 for serving.
-abbrev pub IsFixedOver : Command → Option (List ℕ) → Tables → ℕ → Type 0
-IsFixedOver (command.Session workers requests) left tables n =
-    IfSome left (λ input. (s : State) → IsValid s → tables ≡ tables_of s → IsOfEnd requests input n)
-IsFixedOver (command.Serve count workers requests) left tables n = n ≡ code status.Ended
+-- The status of a command over tables of which no row breaks a rule: that of the end of the input for a session, and 0 for serving.
+abbrev pub IsFixedOver : Command → Option (List ℕ) → ℕ → Type 0
+IsFixedOver (command.Session workers requests) left n = IfSome left (λ input. IsOfEnd requests input n)
+IsFixedOver (command.Serve count workers requests) left n = n ≡ code status.Ended
 
 -- The status that words, an input and tables fix: that of words that are no command, that of tables with a row that breaks a rule, or
 -- that of the command.
 abbrev pub IsFixed : Option Command → Option (List ℕ) → Option Tables → ℕ → Type 0
 IsFixed None left told n = n ≡ code status.Usage
 IsFixed (Some command) left told n =
-    IfSome told (λ t. (HasBadRow t × (n ≡ code status.BadRow)) ⊎ (IsFirstBad t None × IsFixedOver command left t n))
+    IfSome told (λ t. (HasBadRow t × (n ≡ code status.BadRow)) ⊎ (IsFirstBad t None × IsFixedOver command left n))
 
--- the command is a session
-abbrev pub IsSession : Command → Type 0
-IsSession (command.Session workers requests) = Unit {0}
-IsSession (command.Serve count workers requests) = ⊥
+-- the command is a session, in whose input a byte is left behind as many requests as it may answer
+abbrev pub HasFurther : Command → Option (List ℕ) → Type 0
+HasFurther (command.Session workers requests) left =
+    IfSome left (λ input. (asked : List Framed) × AreRequests requests input asked turns)
+HasFurther (command.Serve count workers requests) left = ⊥
 
 -- The causes of the statuses. No count of faults falls, and the status of a fault of source, sink, keeper or door means that its count
 -- rose. The status of words that are no command is theirs alone, and that of a bad row such tables' alone; those words and tables have
--- no other status, but where the run broke off, or the keeper failed. Only a session has the status of a further request. Where none of
--- these counts rose, the status is the one that words, input and tables fix, or memory was wanting.
+-- no other status, but where the run broke off, or the keeper failed. Only a session whose input goes on has the status of a further
+-- request. Where none of these counts rose, the status is the one that words, input and tables fix, or memory was wanting.
 pub record Causes (words : List (List ℕ)) (before now : Seen) (n : ℕ) : Type 0 where
   pub of_source : CountsFault (n ≡ code status.SourceFault) before.source.faults now.source.faults
   pub of_sink : CountsFault (n ≡ code status.SinkFault) before.sink.faults now.sink.faults
@@ -150,7 +153,7 @@ pub record Causes (words : List (List ℕ)) (before now : Seen) (n : ℕ) : Type
   pub bad_row_cause : n ≡ code status.BadRow → IfSome before.keeper.tables HasBadRow
   pub bad_row : IsCommand words → IfSome before.keeper.tables (λ t. HasBadRow t
       → (n ≡ code status.BadRow) ⊎ ((n ≡ code status.KeeperFault) ⊎ IsBrokenOff n))
-  pub turns_cause : n ≡ code status.Turns → (command : Command) × (command_of words ≡ Some command) × IsSession command
+  pub turns_cause : n ≡ code status.Turns → (command : Command) × (command_of words ≡ Some command) × HasFurther command before.source.left
   pub complete : ¬ Rose before.source.faults now.source.faults → ¬ Rose before.sink.faults now.sink.faults
       → ¬ Rose before.keeper.faults now.keeper.faults → ¬ Rose before.door.faults now.door.faults
       → (n ≡ code status.Memory) ⊎ IsFixed (command_of words) before.source.left before.keeper.tables n

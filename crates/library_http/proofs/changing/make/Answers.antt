@@ -26,12 +26,14 @@ returns-in-Ok-Refused-clause-acts g c = λ s keeps.
     let keeper = g.D.Keeper.shown c.args.keeper.now in
     let answer = rw c.in-Ok-Refused.field-0-is at (c.in-Ok-Refused.ensures.staged s keeps) in
     let refuses = rw c.in-Ok-Refused.field-0-is at c.in-Ok-Refused.ensures.causes in
+    let untouched = rw c.in-Ok-Refused.field-0-is at c.in-Ok-Refused.ensures.untouched in
     let w0 = world c.args.library.now keeper (g.V.Vault.shown c.args.vault.now) in
     let w1 = world c.stage.new.library keeper (g.V.Vault.shown c.stage.new.vault) in
     Acts-staged s (text_of request.token) request.mark request.command c.in-Ok-Refused.reply _ c.args.library.now c.stage.new.library keeper
     (g.V.Vault.shown c.args.vault.now) (g.V.Vault.shown c.stage.new.vault) keeps c.stage.ensures.stages
     (λ none. ap g.V.Vault.shown (c.stage.ensures.spared none)) answer
     (CountsOne-vault c.in-Ok-Refused.reply w0 w1 refuses.vault refuses.keeper c.stage.ensures.stages.later (omega arith))
+    (λ below. ap g.V.Vault.shown (untouched (λ is. absurd (omega (arith, below, is)))))
 
 pub returns-in-Err-clause-acts : goal.returns-in-Err-clause-acts
 returns-in-Err-clause-acts g c = λ s keeps.
@@ -43,3 +45,4 @@ returns-in-Err-clause-acts g c = λ s keeps.
     (g.V.Vault.shown c.args.vault.now) (g.V.Vault.shown c.stage.new.vault) keeps c.stage.ensures.stages
     (λ none. ap g.V.Vault.shown (c.stage.ensures.spared none)) (record { way = without_memory; answers = (refl, refl) })
     (CountsOne-neither (refusal cause.Memory) w0 w1 (omega arith) (omega arith) c.stage.ensures.stages.later (omega arith))
+    (λ below. absurd (omega (arith, below)))

@@ -1,8 +1,10 @@
 use Rattle.std.proofs.Common.{◌≡◌, ◌<◌, ◌≤◌, ◌+◌, ◌-◌, ℕ, suc, [], List, refl, sym, subst, rules, arith}
 use Rattle.library_http.specs.declared.serving.How.TheVariants as how
-use Rattle.library_http.specs.Turns.{SoFar}
+use Rattle.library_http.specs.Turns.{Passed, SoFar}
 use Rattle.library_http.specs.World.{world}
+use Rattle.library_http.proofs.Framing.{Passed-closed, Passed-limit, Passed-none, Passed-stopped, Passed-turn}
 use Rattle.library_http.proofs.Served.{SoFar-ends, SoFar-none, SoFar-turn}
+use Rattle.library_http.proofs.Turning.{Serves-limit}
 use Rattle.library_http.proofs.serving.serve.Goals as goal
 
 pub requests-init : goal.requests-init
@@ -18,6 +20,11 @@ requests-init g c = (
   omega arith,
   omega arith,
   record { of_keeper = omega arith; of_vault = omega arith },
+  λ more is.
+      let source = g.S.Source.shown c.args.source.now in
+      let all : more ≡ c.args.requests = omega (arith, is) in
+      subst (λ (held : List ℕ). Passed c.args.requests more 0 held source source) (sym c.requires.empty)
+      (subst (λ (n : ℕ). Passed n more 0 [] source source) all (Passed-none more source)),
 )
 
 pub requests-preserved : goal.requests-preserved
@@ -41,6 +48,10 @@ requests-preserved g c =
         of_keeper = omega (arith, later.of_keeper, turn.later.of_keeper);
         of_vault = omega (arith, later.of_vault, turn.later.of_vault);
       },
+      λ more is.
+          let passed = c.requests.invariant.5 (suc more) (omega (arith, is)) in
+          Passed-turn c.args.requests more c.requests.answered c.requests.inbox c.serve_one.new.inbox (g.S.Source.shown c.args.source.now)
+          (g.S.Source.shown c.requests.source) (g.S.Source.shown c.serve_one.new.source) passed turn.finds.0 turn.finds.1,
     )
 
 pub returns-in-Closed-clause-session : goal.returns-in-Closed-clause-session
@@ -79,4 +90,29 @@ returns-clause-session g c = λ start keeps.
     (g.S.Source.shown c.args.source.now) (g.S.Source.shown c.requests.source) (g.S.Source.shown c.end_at_limit.new.source)
     (g.K.Sink.shown c.args.sink.now) sink sink
     (world c.args.library.now (g.D.Keeper.shown c.args.keeper.now) (g.V.Vault.shown c.args.vault.now)) w w
-    so_far (c.end_at_limit.ensures.ends so_far.state sink w so_far.keeps) (omega arith)
+    so_far (Serves-limit c.end_at_limit.result so_far.state c.requests.inbox (g.S.Source.shown c.requests.source)
+    (g.S.Source.shown c.end_at_limit.new.source) sink w so_far.keeps c.end_at_limit.ensures.takes) (omega arith)
+
+pub returns-in-Closed-clause-framed : goal.returns-in-Closed-clause-framed
+returns-in-Closed-clause-framed g c =
+    let below : c.requests.answered < c.args.requests = search rules in
+    let more = c.args.requests - c.requests.answered - 1 in
+    let finds = c.in-Closed.ensures.finds in
+    Passed-closed c.args.requests more c.requests.answered c.requests.inbox c.serve_one.new.inbox (g.S.Source.shown c.args.source.now)
+    (g.S.Source.shown c.requests.source) (g.S.Source.shown c.serve_one.new.source) (c.requests.invariant.5 (suc more) (omega (arith, below)))
+    finds.0 finds.1
+
+pub returns-in-Stopped-clause-framed : goal.returns-in-Stopped-clause-framed
+returns-in-Stopped-clause-framed g c =
+    let below : c.requests.answered < c.args.requests = search rules in
+    let more = c.args.requests - c.requests.answered - 1 in
+    Passed-stopped c.in-Stopped.how c.args.requests more c.requests.answered c.requests.inbox (g.S.Source.shown c.args.source.now)
+    (g.S.Source.shown c.requests.source) (g.S.Source.shown c.serve_one.new.source) (c.requests.invariant.5 (suc more) (omega (arith, below)))
+    c.in-Stopped.ensures.finds
+
+pub returns-clause-framed : goal.returns-clause-framed
+returns-clause-framed g c =
+    let reached : c.args.requests ≤ c.requests.answered = search rules in
+    Passed-limit c.end_at_limit.result c.args.requests c.requests.answered c.requests.inbox (g.S.Source.shown c.args.source.now)
+    (g.S.Source.shown c.requests.source) (g.S.Source.shown c.end_at_limit.new.source) (c.requests.invariant.5 0 (omega (arith, reached)))
+    c.end_at_limit.ensures.takes

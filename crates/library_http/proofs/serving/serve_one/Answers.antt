@@ -1,5 +1,6 @@
 use Rattle.std.proofs.Common.{◌++◌}
 use Rattle.library_http.specs.World.{world}
+use Rattle.library_http.proofs.Framing.{TakesFinding-refused, TurnFinds-framed}
 use Rattle.library_http.proofs.Turning.{BeginsWith-within, TurnDoes-ended, TurnDoes-fault, TurnDoes-framed, TurnDoes-refused, TurnDoes-unread}
 use Rattle.library_http.proofs.serving.serve_one.Goals as goal
 
@@ -47,3 +48,32 @@ returns-in-Memory-clause-turn g c = λ s keeps.
     TurnDoes-unread s c.args.inbox.now c.next_request.new.inbox c.next_request.new.inbox
     (g.S.Source.shown c.args.source.now) (g.S.Source.shown c.next_request.new.source) (g.K.Sink.shown c.args.sink.now)
     (world c.args.library.now (g.D.Keeper.shown c.args.keeper.now) (g.V.Vault.shown c.args.vault.now)) keeps reads
+
+pub returns-in-Framed-clause-finds : goal.returns-in-Framed-clause-finds
+returns-in-Framed-clause-finds g c =
+    let reads = rw c.in-Framed.is at c.next_request.ensures in
+    TurnFinds-framed c.serve_request.result c.args.inbox.now c.next_request.new.inbox c.serve_request.new.inbox c.in-Framed.request
+    (g.S.Source.shown c.args.source.now) (g.S.Source.shown c.next_request.new.source) reads c.serve_request.ensures.passed
+    (c.serve_request.ensures.shuts reads.found.head reads.found.lies)
+
+pub returns-in-Refused-clause-finds : goal.returns-in-Refused-clause-finds
+returns-in-Refused-clause-finds g c =
+    let reads = rw c.in-Refused.is at c.next_request.ensures in
+    TakesFinding-refused c.end_by.result c.args.inbox.now c.next_request.new.inbox c.in-Refused.cause (g.S.Source.shown c.args.source.now)
+    (g.S.Source.shown c.next_request.new.source) (g.K.Sink.shown c.args.sink.now) (g.K.Sink.shown c.end_by.new.sink) reads
+    c.end_by.ensures.refuses
+
+pub returns-in-Ended-clause-finds : goal.returns-in-Ended-clause-finds
+returns-in-Ended-clause-finds g c =
+    let reads = rw c.in-Ended.is at c.next_request.ensures in
+    record { taken = reads.taken; content = reads.content; found = reads.found }
+
+pub returns-in-Fault-clause-finds : goal.returns-in-Fault-clause-finds
+returns-in-Fault-clause-finds g c =
+    let reads = rw c.in-Fault.is at c.next_request.ensures in
+    record { taken = reads.taken; content = reads.content; found = reads.found }
+
+pub returns-in-Memory-clause-finds : goal.returns-in-Memory-clause-finds
+returns-in-Memory-clause-finds g c =
+    let reads = rw c.in-Memory.is at c.next_request.ensures in
+    record { taken = reads.taken; content = reads.content; found = tt }

@@ -8,6 +8,7 @@ use Rattle.http_model.specs.Requests.{closes}
 use Rattle.http_model.specs.Spelling.{spelled}
 use Rattle.library_http.specs.Turns.{allowed_in, reply_given}
 use Rattle.library_http.specs.World.{world}
+use Rattle.library_http.proofs.Framing.{ClosesAs-written}
 use Rattle.library_http.proofs.Replying.{TurnsOn-written}
 use Rattle.library_http.proofs.serving.serve_request.Goals as goal
 
@@ -28,3 +29,7 @@ returns-clause-turn g c = λ s keeps head lies.
     c.turn_of.ensures shuts (c.answer-given.ensures.acts s keeps q there refl)
     (subst (λ (text : List ℕ). WritesAll (g.K.Sink.shown c.args.sink.now) (g.K.Sink.shown c.write_given-written.new.sink) text c.write_given-written.result)
     spells c.write_given-written.ensures)
+
+pub returns-clause-shuts : goal.returns-clause-shuts
+returns-clause-shuts g c = λ head lies.
+    ClosesAs-written c.args.request.heading.closes c.write_given-written.result c.turn_of.result head c.turn_of.ensures lies.values.closes

@@ -1,6 +1,5 @@
 use Rattle.std.proofs.Common.{refl, sym, subst}
 use Rattle.cli_words.specs.declared.commands.Command.{Command}
-use Rattle.library_http.specs.World.{world}
 use Rattle.report_cli.specs.Running.{CarriesOut}
 use Rattle.report_cli.specs.Seen.{seen}
 use Rattle.report_cli.proofs.RunLemmas.{keeps_opened, all_by_bytes}
@@ -19,6 +18,7 @@ returns-in-Session-clause-carries g c = λ told opened.
       record {
         library_now = c.session-end.new.library;
         session = λ s valid rows. c.session-end.ensures.session s (keeps_opened told c.args.library opened s valid rows);
+        framed = c.session-end.ensures.framed;
         door = refl;
       },
       c.of_session.ensures,
@@ -32,16 +32,13 @@ returns-clause-carries g c = λ told opened.
     (seen (g.S.Source.shown c.args.source.now) (g.K.Sink.shown c.serve.new.sink) (g.D.Keeper.shown c.serve.new.keeper)
     (g.V.Vault.shown c.serve.new.vault) (g.O.Door.shown c.serve.new.door)) in
     let did = c.serve.ensures.serves in
-    let before = world c.args.library (g.D.Keeper.shown c.args.keeper.now) (g.V.Vault.shown c.args.vault.now) in
-    let now = world c.serve.new.library (g.D.Keeper.shown c.serve.new.keeper) (g.V.Vault.shown c.serve.new.vault) in
     subst P (sym c.in-Serve.is) (
       did.0,
       record {
         library_now = c.serve.new.library;
         serves = λ s valid rows. did.1.from s (keeps_opened told c.args.library opened s valid rows);
-        ends = λ s valid rows.
-            let from = did.1.from s (keeps_opened told c.args.library opened s valid rows) in
-            all_by_bytes c.in-Serve.requests s from.last did.0 before now from.in_turn;
+        framed = did.1.framed;
+        ends = all_by_bytes c.in-Serve.requests did.0 did.1.framed;
         door = did.1.door;
         lines = did.2;
         source = refl;

@@ -30,5 +30,5 @@ returns-clause-served g c =
             later = given.faults.later;
             failed_sources = given.failed_sources;
             failed_sinks = given.failed_sinks;
-          }) c.back.ensures c.session-end.ensures.faults c.session-end.ensures.session,
+          }) c.back.ensures c.session-end.ensures.faults c.session-end.ensures.session c.session-end.ensures.framed,
     )
