@@ -12,6 +12,7 @@ use std::test::Fail;
 
 /// A request after which the session goes on, and one that asks to close.
 const STAYS: &[u8] = b"GET /albums/1 HTTP/1.1\r\nHost: a\r\n\r\n";
+
 const CLOSES: &[u8] = b"GET /albums/1 HTTP/1.1\r\nHost: a\r\nConnection: close\r\n\r\n";
 
 /// A source of two requests. The second is there only once a reply was written: before that a read
@@ -94,7 +95,15 @@ fn answers_before_it_reads_on(rt: HostRuntime) -> Result<(), Fail> {
         let mut vault = MemVault::new(alloc, Vec::new(alloc));
         let mut library = Library::open(&rt, alloc, &mut keeper)?;
         let end = session(
-            &rt, alloc, &mut library, &mut keeper, &mut vault, &mut source, &mut sink, 1, 9,
+            &rt,
+            alloc,
+            &mut library,
+            &mut keeper,
+            &mut vault,
+            &mut source,
+            &mut sink,
+            1,
+            9,
         );
         let how = How::Ended;
         assert_eq!(rt; end, SessionEnd { how, answered });

@@ -302,9 +302,11 @@ serving_unturned status.Turns count connections old new n ends end is = absurd e
 turned : (h : How) (n count : ℕ) (workers : ℕ) (before now : SourceView) → IsFramed h n count before now
     → code (status_of h) ≡ code status.Turns → HasFurther (command.Session workers n) before.left
 turned how.Turns n count workers before now framed is =
-    for_left before.left _ (λ input told.
-    (framed.requests, Covers-told before.left now.left input framed.taken (λ b. AreRequests n b framed.requests turns) told framed.content
-    framed.ends))
+    for_left before.left _ (λ input told. (
+      framed.requests,
+      Covers-told before.left now.left input framed.taken (λ b. AreRequests n b framed.requests turns) told framed.content
+          framed.ends,
+    ))
 turned how.Ended n count workers before now framed is = absurd (omega (arith, is))
 turned how.Unframeable n count workers before now framed is = absurd (omega (arith, is))
 turned how.SourceFault n count workers before now framed is = absurd (omega (arith, is))
