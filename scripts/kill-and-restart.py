@@ -48,6 +48,7 @@ def files():
 
 
 FILES = files()
+SILENCE = 20  # seconds after which a connection is not used again: the server waits for 30
 
 
 def request(method, target, token=None, body=None, name=None):
@@ -92,7 +93,7 @@ def is_held():
 class Server:
     def __init__(self, folder):
         self.folder, self.process, self.connection, self.log = folder, None, None, None
-        self.said = os.path.join(folder, "standard-error")
+        self.said, self.asked = os.path.join(folder, "standard-error"), 0
 
     def stop(self, why):
         raise SystemExit(f"{why}: see {self.said}")
@@ -140,10 +141,14 @@ class Server:
 
     def ask(self, data):
         """The status and the body of the reply."""
+        if time.monotonic() - self.asked > SILENCE:
+            self.hang_up()
         try:
             self.connection = self.connection or self.connect()
             self.connection.sendall(data)
-            return self.reply()
+            found = self.reply()
+            self.asked = time.monotonic()
+            return found
         except OSError:
             self.hang_up()
             raise Lost
@@ -257,6 +262,9 @@ def main():
     # words that are no command, which build the program where it is not built
     subprocess.run([PROGRAM], cwd=folder, stdin=subprocess.DEVNULL, stdout=subprocess.DEVNULL)
     print(f"{rounds} rounds, seed {seed}, in {folder}", flush=True)
+    # what the model measures of a file it keeps: so no round waits for that
+    for file in FILES:
+        Library().decide(("import", None, b"", file))
     trial = Trial(Server(folder), seed)
     atexit.register(trial.server.kill)
     for number in range(1, rounds + 1):
