@@ -10,7 +10,8 @@
 #
 # usage: bench/evening.sh [PART ..]
 # Without words it does all. RUNS says how often each thing is timed, of which the median counts: 5 unless it is
-# said. It is run by hand on a machine that does nothing else, with the port 8330 free; it tests nothing.
+# said. LOUDLIB_PROGRAM and BENCH_FILES name loudlib and bench_files as they were built elsewhere. It is run by hand
+# on a machine that does nothing else, with the port 8330 free; it tests nothing.
 set -eu
 
 clone=$(cd "$(dirname "$0")/.." && pwd -P)
@@ -141,15 +142,16 @@ imports() {
 }
 
 hundred() {
-    local file=$work/hundred.wav run
-    (cd "$clone/crates/bench_files" && rt run -- none >"$work/log" 2>&1) || { cat "$work/log" >&2; exit 1; }
-    music 16 520 "$file"
+    local file=$work/hundred.wav run measures=${BENCH_FILES:-$clone/crates/bench_files/out/bench_files}
+    [ -n "${BENCH_FILES-}" ] || (cd "$clone/crates/bench_files" && rt run -- none >"$work/log" 2>&1) ||
+        { cat "$work/log" >&2; exit 1; }
+    music 16 "${SECONDS_OF_SOUND:-520}" "$file"
     rm -f "$work"/*.times
     start "$work/hundred" --workers 4
     for ((run = 0; run < runs; run++)); do
         send POST /recordings "$file"
         echo "$seconds $busy" >>"$work/import.times"
-        timed "$work/measure.times" "$clone/crates/bench_files/out/bench_files" "$file" 4 1
+        timed "$work/measure.times" "$measures" "$file" 4 1
         timed "$work/digest.times" md5sum "$file" "$file"
         # what the system takes to have as many bytes on the disk
         timed "$work/disk.times" dd if="$file" of="$work/copy" bs=1M conv=fsync
@@ -163,10 +165,10 @@ hundred() {
 }
 
 largest() {
-    local data=$((268435456 - 44)) run
+    local data=$((${LARGEST:-268435456} - 44)) run
     { head_of 16 $data && head -c $data /dev/urandom; } >"$work/largest.wav"
     start "$work/largest" --workers 4
-    printf '| a wave of 268,435,456 bytes, 4 workers | seconds by the clock | of processors | highest resident size, MB |\n'
+    printf '| the largest wave, 4 workers | seconds by the clock | of processors | highest resident size, MB |\n'
     printf '|---|---|---|---|\n| an empty library | | | %s |\n' "$(highest)"
     send POST /recordings "$work/largest.wav"
     printf '| an import | %.1f | %.1f | %s |\n' "$seconds" "$busy" "$(highest)"
@@ -184,7 +186,7 @@ largest() {
 questions_row() { awk -v what="$1" -v n="$2" -v s="$(between "$3" "$(now)")" 'BEGIN { printf "| %s | %.0f |\n", what, n / s }'; }
 
 questions() {
-    local count=20000 began answered i
+    local count=${QUESTIONS:-20000} began answered i
     start "$work/questions" --workers 4
     sh "$clone/examples/one-second.sh" >"$work/tone.wav"
     send POST /recordings "$work/tone.wav"
@@ -253,14 +255,14 @@ copy_log() {
 opening() {
     local count
     has sqlite3 || { echo 'opening: skipped, sqlite3 is not here'; return 0; }
-    music 16 300 "$work/five.wav"
+    music 16 "${SECONDS_OF_SOUND:-300}" "$work/five.wav"
     start "$work/one" --workers 4
     send POST /recordings "$work/five.wav"
     stop TERM
     copy_log "$work/one"
     rm -rf "$work/one/takes"
     printf '| opened | database, MB | log, MB | seconds | highest resident size, MB |\n|---|---|---|---|---|\n'
-    for count in 1000 10000; do
+    for count in ${COUNTS:-1000 10000}; do
         rm -rf "$work/log" && cp -r "$work/one" "$work/log"
         multiply "$work/log" $count
         opening_row "$count recordings, log not copied" "$work/log"
