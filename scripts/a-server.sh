@@ -21,6 +21,8 @@ start() {
     local i
     mkdir -p "$1" && cd "$1" || exit 1
     shift
+    # the line of a server before this one must not be read
+    rm -f faults
     "$program" serve --connections 65535 "$@" >>lines 2>faults </dev/null &
     pid=$!
     for ((i = 0; i < 6000; i++)); do
