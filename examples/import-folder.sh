@@ -42,13 +42,16 @@ else
 fi
 
 # Sends a request, with the words of curl that make it, until it is answered by another status than that
-# of a fault; the body of the reply is left in $work/reply. A token makes it safe to ask again.
+# of a fault; the body of the reply is left in $work/reply. A token makes it safe to ask again. A reply that
+# broke off is none, but that of a file too large may come while curl still sends. It waits for ten minutes
+# where no byte moves, since other clients may be served first.
 send() {
     try=0
     wait=1
     while :; do
         try=$((try + 1))
-        status=$(curl -sS -g --http1.1 -o "$work/reply" -w '%{http_code}' -H 'Expect:' "$@" 2>"$work/fault")
+        status=$(curl -sS -g --http1.1 -Y 1 -y 600 -o "$work/reply" -w '%{http_code}' -H 'Expect:' "$@" \
+            2>"$work/fault") || [ "$status" = 413 ] || status=000
         case $status in
         502 | 503 | 504 | 000 | '') ;;
         *) return 0 ;;
@@ -149,7 +152,7 @@ fi
 
 # the waves and FLAC files of which the path has a line end, or has none
 found() {
-    find "$folder" -type f \( -name '*.[wW][aA][vV]' -o -name '*.[fF][lL][aA][cC]' \) "$@"
+    find -H "$folder" -type f \( -name '*.[wW][aA][vV]' -o -name '*.[fF][lL][aA][cC]' \) "$@"
 }
 
 found ! -path '*

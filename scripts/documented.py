@@ -1,6 +1,7 @@
 #!/usr/bin/env python3
 """Runs what a page shows: in each block marked `console`, a line that begins with `$ ` is a command, and what stands
-below it is what it must print. They run in order in the current folder, in which `examples` is that of the clone.
+below it is what it must print. They run in order in the current folder, in which `examples` is that of the clone. The
+status is 0 where each command ended with 0 and printed what is shown, and 1 else.
 
 usage: scripts/documented.py PAGE ..
 """
@@ -19,15 +20,22 @@ def commands(page):
             yield command, wanted.rstrip("\n")
 
 
+def run(command):
+    """The status of a command, and what it printed. It has a minute."""
+    words = ["timeout", "60", "sh", "-c", command]
+    done = subprocess.run(words, stdin=subprocess.DEVNULL, capture_output=True, text=True)
+    return done.returncode, done.stdout, done.stderr
+
+
 def main():
     wrong = tried = 0
     for page in sys.argv[1:]:
         for command, wanted in commands(page):
-            done = subprocess.run(["sh", "-c", command], capture_output=True, text=True, timeout=60)
+            status, told, faults = run(command)
             tried += 1
-            if done.returncode or done.stdout.rstrip("\n") != wanted:
+            if status or told.rstrip("\n") != wanted:
                 wrong += 1
-                print(f"$ {command}\n{done.stdout}{done.stderr}(wanted)\n{wanted}")
+                print(f"$ {command}\n{told}\n{faults}(wanted)\n{wanted}")
     print(f"{tried} commands, {wrong} of them otherwise than shown")
     return 1 if wrong or not tried else 0
 

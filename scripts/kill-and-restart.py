@@ -4,15 +4,17 @@
 A client sends imports, retakes, moves, albums and removals, each under a token of its own. After a kill it sends the
 request again that was not answered. Each reply must be the model's; after each start every recording and every album
 must be answered as the model answers it, and the file of each take must be the one that was sent: so every acknowledged
-change is there, and a repeat settles the one that was lost.
+change is there, and a repeat settles the one that was lost. Each kept reply must come again where its token does, and at
+most one file is left that was not whole.
 
-usage: scripts/kill-and-restart.py [ROUNDS [SEED]]      (200 rounds; port 8330 must be free)
+usage: scripts/kill-and-restart.py [ROUNDS [SEED]]      (200 rounds take some five minutes; port 8330 must be free)
 LOUDLIB_PROGRAM names another program than ./loudlib.
 """
 import atexit
 import hashlib
 import os
 import random
+import re
 import shutil
 import socket
 import subprocess
@@ -30,6 +32,7 @@ PORT = 8330
 HERE = os.path.dirname(os.path.abspath(__file__))
 PROGRAM = os.environ.get("LOUDLIB_PROGRAM", os.path.join(HERE, "..", "loudlib"))
 FAULTS = (502, 503, 504)
+FEW = 150  # recordings, above which more are removed than imported
 
 # ---- What is sent
 
@@ -60,6 +63,7 @@ def change(random, library, token):
     some = lambda ids: random.choice(sorted(ids) + [999]) if ids else 999
     recording, album = some(library.recordings), some(library.names)
     file = random.choice(FILES)
+    removals = 3 if len(library.recordings) < FEW else 12
     return random.choices([
         lambda: request("POST", "/albums", token, b'{"name":"album %s"}' % token.encode()),
         lambda: request("POST", "/recordings", token, file, f"recording {token}"),
@@ -69,7 +73,7 @@ def change(random, library, token):
                         b'{"album":%s}' % (b"null" if random.random() < 0.3 else b"%d" % album)),
         lambda: request("DELETE", f"/recordings/{recording}", token),
         lambda: request("DELETE", f"/albums/{album}", token),
-    ], weights=[2, 3, 6, 5, 5, 3, 1])[0]()
+    ], weights=[2, 3, 6, 5, 5, removals, 1])[0]()
 
 
 # ---- The server
@@ -79,12 +83,23 @@ class Lost(Exception):
     """The server went away."""
 
 
+def is_held():
+    """Whether something listens at the port (0x208A), which is not asked."""
+    with open("/proc/net/tcp") as f:
+        return any(re.match(r" *\d+: [0-9A-F]{8}:%04X \S+ 0A " % PORT, line) for line in f)
+
+
 class Server:
     def __init__(self, folder):
-        self.folder, self.process, self.connection = folder, None, None
+        self.folder, self.process, self.connection, self.log = folder, None, None, None
+        self.said = os.path.join(folder, "standard-error")
+
+    def stop(self, why):
+        raise SystemExit(f"{why}: see {self.said}")
 
     def start(self):
-        self.log = open(os.path.join(self.folder, "standard-error"), "ab")
+        self.log = open(self.said, "ab")
+        self.from_here = self.log.tell()
         self.process = subprocess.Popen([PROGRAM, "serve", "--connections", "65535"], cwd=self.folder,
                                         stdin=subprocess.DEVNULL, stdout=subprocess.DEVNULL, stderr=self.log)
 
@@ -95,25 +110,33 @@ class Server:
     def end(self):
         """After a kill: waits for its end, so that the next one finds the port and the database."""
         self.hang_up()
-        status = self.process.wait()
+        try:
+            status = self.process.wait(60)
+        except subprocess.TimeoutExpired:
+            self.stop("a connection was lost, or not answered, and the server lives")
         self.log.close()
         if status != -9:
-            raise SystemExit(f"the server ended by itself, with {status}: see {self.folder}/standard-error")
+            self.stop(f"the server ended by itself, with {status}")
 
     def hang_up(self):
         if self.connection:
             self.connection.close()
         self.connection = None
 
+    def listens(self):
+        """Whether it says so: what answers at the port might be another's."""
+        with open(self.said, "rb") as f:
+            f.seek(self.from_here)
+            return b"listening on" in f.read()
+
     def connect(self):
-        for _ in range(6000):
-            try:
+        for _ in range(12000):
+            if self.listens():
                 return socket.create_connection(("127.0.0.1", PORT), 60)
-            except OSError:
-                if self.process.poll() is not None:
-                    raise Lost
-                time.sleep(0.02)
-        raise SystemExit("the server does not listen")
+            if self.process.poll() is not None:
+                raise Lost
+            time.sleep(0.01)
+        self.stop("the server does not listen")
 
     def ask(self, data):
         """The status and the body of the reply."""
@@ -149,6 +172,7 @@ class Trial:
     def __init__(self, server, seed):
         self.server, self.random = server, random.Random(seed)
         self.world, self.sent, self.pending, self.repeats = World(Library(), Calls(), Vault()), 0, None, 0
+        self.accepted = []  # the newest changes that were, and some of the others
 
     def wanted(self, data):
         """What the model replies, which goes on by it."""
@@ -169,6 +193,10 @@ class Trial:
         wanted = self.wanted(self.pending)
         if found != wanted:
             self.differs(self.pending[:200], found, wanted)
+        if found[0] in (200, 201):
+            self.accepted.append(self.pending)
+            if len(self.accepted) > 60:
+                self.accepted.pop(self.random.randrange(50))
         self.pending = None
 
     def compare(self):
@@ -176,17 +204,28 @@ class Trial:
         if self.pending is not None:
             self.repeats += 1
             self.step()
-        for target in ([f"/recordings/{id}" for id in range(1, self.world.library.next_recording + 1)]
-                       + [f"/albums/{id}" for id in range(1, self.world.library.next_album + 1)]):
-            data = request("GET", target)
+        library = self.world.library
+        questions = ([request("GET", f"/recordings/{id}") for id in range(1, library.next_recording + 1)]
+                     + [request("GET", f"/albums/{id}") for id in range(1, library.next_album + 1)])
+        # the newest changes again, and some of any age
+        repeats = self.accepted[-3:] + self.random.sample(self.accepted, min(5, len(self.accepted)))
+        for data in questions + repeats:
             found, wanted = self.server.ask(data), self.wanted(data)
             if found != wanted:
-                self.differs(target, found, wanted)
-        for r in self.world.library.recordings.values():
+                self.differs(data[:200], found, wanted)
+        for r in library.recordings.values():
             with open(os.path.join(self.server.folder, "takes", f"{r.take}.bin"), "rb") as f:
                 found = hashlib.md5(f.read()).hexdigest()
             if found != r.digest:
                 self.differs(f"take {r.take}", found, r.digest)
+        parts = [name for name in self.files() if name.endswith(".part")]
+        if len(parts) > 1:
+            self.differs("files that are not whole", parts, "one at most")
+
+    def files(self):
+        """The names of the files of takes."""
+        takes = os.path.join(self.server.folder, "takes")
+        return os.listdir(takes) if os.path.isdir(takes) else []
 
     def round(self):
         """A start, a comparison and changes, until a kill at a random moment: of the start in one of four rounds, else
@@ -211,7 +250,12 @@ class Trial:
 def main():
     rounds = int(sys.argv[1]) if len(sys.argv) > 1 else 200
     seed = int(sys.argv[2]) if len(sys.argv) > 2 else random.randrange(1 << 32)
+    if is_held():
+        raise SystemExit(f"port {PORT} is held by another program. In a network of its own this has a port of its own:\n"
+                         f"    unshare -rn sh -c 'ip link set lo up; exec {sys.argv[0]}'")
     folder = tempfile.mkdtemp(prefix="kill-and-restart-")
+    # words that are no command, which build the program where it is not built
+    subprocess.run([PROGRAM], cwd=folder, stdin=subprocess.DEVNULL, stdout=subprocess.DEVNULL)
     print(f"{rounds} rounds, seed {seed}, in {folder}", flush=True)
     trial = Trial(Server(folder), seed)
     atexit.register(trial.server.kill)
@@ -224,7 +268,7 @@ def main():
     trial.server.kill()
     trial.server.end()
     named = {f"{r.take}.bin" for r in trial.world.library.recordings.values()}
-    left = [name for name in os.listdir(os.path.join(folder, "takes")) if name not in named]
+    left = [name for name in trial.files() if name not in named]
     print(f"no change was lost or done twice: {trial.sent} changes, {trial.repeats} of them sent again after a kill; "
           f"{len(left)} files of takes that no row names")
     shutil.rmtree(folder)

@@ -24,15 +24,22 @@ meaning() {
     6) echo 'library.db could not be opened: the line before says why (another process may hold it)' ;;
     7) echo 'a row of library.db breaks a rule: the last line on standard output says which, and docs/FORMATS.md what it means' ;;
     10) echo 'no connection could be let in: the line before says why (another process may hold port 8330)' ;;
-    125) echo 'the program could not be built' ;;
+    125) echo 'the program could not be built: the lines before say why' ;;
     127) echo 'there is no rt on the path, which builds the program' ;;
     *) echo 'it was ended from outside' ;;
     esac
 }
 
 child=
-trap '[ -z "$child" ] || kill "$child" 2>/dev/null; exit 143' TERM
-trap '[ -z "$child" ] || kill "$child" 2>/dev/null; exit 130' INT
+# Ends the server too, and waits for that, so that the library is free behind it.
+leave() {
+    trap '' HUP INT TERM
+    [ -z "$child" ] || { kill "$child" && wait "$child"; } 2>/dev/null
+    exit "$1"
+}
+trap 'leave 129' HUP
+trap 'leave 130' INT
+trap 'leave 143' TERM
 
 while :; do
     "$program" serve "$@" &
