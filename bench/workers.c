@@ -2,7 +2,7 @@
  * in the same rounds, and the same lines printed.
  *
  * usage: workers CHANNELS BITS TENTHS WORKERS ROUNDS, the words of bench_workers
- *        workers turn TURNS THREADS, so many turns of a loop that uses no memory, in each of so many threads */
+ *        workers turn TURNS THREADS, so many turns of a loop of products, in each of so many threads */
 #include "meters.h"
 #include <pthread.h>
 #include <stdio.h>
