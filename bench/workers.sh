@@ -1,10 +1,11 @@
 #!/bin/bash
 # Times how many times as fast as one worker more workers measure noise, beside plain C of the same
-# definitions with the same jobs (bench/workers.c), which has to print the same; how many times as much
-# a loop that waits for the multiplier alone gets done by more threads, which tells whether the processors
-# are cores of their own; what a tenth of a second takes; what one worker gains by going over each channel
-# once; and how much memory a measurement takes beyond the sound. Each time is the best of some runs of
-# five rounds less the best of as many runs of one; the runs of all programs and workers take turns.
+# definitions with the same jobs (bench/workers.c), which has to print the same; how many times as
+# much a loop that waits for the multiplier alone gets done by more threads, which tells whether the
+# processors are cores of their own; what a tenth of a second takes; what one worker gains by going
+# over each channel once; and how much memory a measurement takes beyond the sound. Each time is the
+# best of some runs of five rounds less the best of as many runs of one; the runs of all programs and
+# workers take turns.
 #
 # usage: bench/workers.sh [RUNS [TENTHS]]
 # TENTHS is how long the sounds are, in tenths of a second: 600, one minute, unless it is said.
