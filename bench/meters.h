@@ -1,9 +1,9 @@
 /* The filter of BS.1770-4 Annex 1 and the true peak of its Annex 2 in whole numbers, in plain C, a
  * sample at a time.
  *
- * With FAST the floor of a division by 10^14 is taken as the library takes it, by a reciprocal and one
- * correction, and the second section's whole part is apart; without it, by the division of 128 bits
- * that the definition is written with. */
+ * With FAST the floor of a division by 10^14 is taken as the library takes it, by a reciprocal and
+ * one correction, and the second section's whole part is apart; without it, by the division of 128
+ * bits that the definition is written with. */
 #include <stdint.h>
 
 typedef __int128 wide;
@@ -62,7 +62,8 @@ static int64_t size(int64_t value) {
     return value < 0 ? -value : value;
 }
 
-/* the greatest size so far and at one place more, whose sample is scaled to 24 bits; REACH more stand before it */
+/* the greatest size so far and at one place more, whose sample is scaled to 24 bits; REACH more stand
+ * before it */
 static inline int64_t raised(int64_t greatest, const int64_t *sample) {
     int64_t own = 8192 * size(*sample);
     if (own > greatest)

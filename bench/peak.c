@@ -1,4 +1,4 @@
-/* The true peak of BS.1770-4 Annex 2 over four phases of twelve taps: what bench_meters does, by meters.h.
+/* The true peak of BS.1770-4 Annex 2: what bench_meters does, by meters.h.
  *
  * It keeps the eleven samples before a place in front of each round's, and adds up all the taps. */
 #include "meters.h"

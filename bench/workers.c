@@ -1,8 +1,8 @@
-/* Noise measured by so many workers, in plain C: what bench_workers does, by meters.h, with the same jobs
- * in the same rounds, and the same lines printed.
+/* Noise measured by so many workers, in plain C: what bench_workers does, by meters.h, with the same
+ * jobs in the same rounds, and the same lines printed.
  *
  * usage: workers CHANNELS BITS TENTHS WORKERS ROUNDS, the words of bench_workers
- *        workers turn TURNS THREADS, so many turns of a loop that uses no memory, in each of so many threads */
+ *        workers turn TURNS THREADS, so many turns of a loop of products in each of so many threads */
 #include "meters.h"
 #include <pthread.h>
 #include <stdio.h>
@@ -22,8 +22,8 @@ static int channels, bits;
 static long frames;
 static int32_t *samples[MOST_CHANNELS];
 
-/* a run over places: the last eleven samples, the greatest size, and how many of the last samples are so low
- * that they can't raise it with others that are */
+/* a run over places: the last eleven samples, the greatest size, and how many of the last samples are
+ * so low that they can't raise it with others that are */
 typedef struct {
     int64_t room[REACH + PIECE], greatest;
     int low;
@@ -58,7 +58,7 @@ static energy squares(const int32_t *values, int count) {
     return sum;
 }
 
-static int least(long one, long other) {
+static long least(long one, long other) {
     return one < other ? one : other;
 }
 
@@ -111,6 +111,11 @@ static void do_round(job *jobs, int count) {
         pthread_join(threads[i], NULL);
 }
 
+/* the place at which a stretch of so many places begins */
+static long cut_at(int stretch, long places) {
+    return least(stretch * places, frames + REACH);
+}
+
 /* the jobs, as measure_pool cuts a sound into them */
 static int cut(job *jobs, int workers) {
     long end = frames + REACH, longest = end / 16384;
@@ -122,10 +127,10 @@ static int cut(job *jobs, int workers) {
     }
     long each = end / stretches + 1;
     for (int c = 0; c < channels; c++)
-        jobs[count++] = (job){c, 1, 0, c < channels - left ? end : 0, NULL, 0};
+        jobs[count++] = (job){.channel = c, .takes_energies = 1, .to = c < channels - left ? end : 0};
     for (int c = channels - left; c < channels; c++)
         for (int s = 0; s < stretches; s++)
-            jobs[count++] = (job){c, 0, s * each, s + 1 < stretches ? (s + 1) * each : end, NULL, 0};
+            jobs[count++] = (job){.channel = c, .from = cut_at(s, each), .to = cut_at(s + 1, each)};
     return count;
 }
 
@@ -164,8 +169,8 @@ static void make_noise(void) {
     }
 }
 
-/* Four numbers go on by themselves, so that a thread waits for the multiplier alone and none is left to
- * another thread on the same core. */
+/* Four numbers go on by themselves, so that a thread waits for the multiplier alone and leaves none of
+ * it to another thread on the same core. */
 static void *turn(void *given) {
     volatile uint64_t kept;
     uint64_t a = 1, b = 2, c = 3, d = 4;

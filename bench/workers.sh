@@ -1,10 +1,11 @@
 #!/bin/bash
 # Times how many times as fast as one worker more workers measure noise, beside plain C of the same
-# definitions with the same jobs (bench/workers.c), which has to print the same; how many times as much
-# a loop that uses no memory gets done by more threads, which is what the machine gives; what a tenth of
-# a second takes; what one worker gains by going over each channel once; and how much memory a
-# measurement takes beyond the sound. Each time is the best of some runs of five rounds less the best of
-# as many runs of one; the runs of all programs and workers take turns.
+# definitions with the same jobs (bench/workers.c), which has to print the same; how many times as
+# much a loop that waits for the multiplier alone gets done by more threads, which tells whether the
+# processors are cores of their own; what a tenth of a second takes; what one worker gains by going
+# over each channel once; and how much memory a measurement takes beyond the sound. Each time is the
+# best of some runs of five rounds less the best of as many runs of one; the runs of all programs and
+# workers take turns.
 #
 # usage: bench/workers.sh [RUNS [TENTHS]]
 # TENTHS is how long the sounds are, in tenths of a second: 600, one minute, unless it is said.
@@ -55,7 +56,7 @@ memory() {
     /usr/bin/time -f %M "$proved" "$@" 2>&1 >/dev/null
 }
 
-# ---- what the machine gives
+# ---- whether the processors are cores of their own
 
 for ((i = 0; i < runs; i++)); do
     for threads in 1 2 3 4; do run "$plain" turn $turns $threads; done
@@ -64,7 +65,7 @@ done
 one=$(best "$plain" turn $turns 1)
 for threads in 2 3 4; do
     awk -v one="$one" -v some="$(best "$plain" turn $turns $threads)" -v threads=$threads \
-        'BEGIN { printf "a loop that uses no memory, %d threads: %.2f times as much as 1\n", threads, threads * one / some }'
+        'BEGIN { printf "the loop by %d threads: %.2f times as much as 1\n", threads, threads * one / some }'
 done
 for other in 1 2 3; do
     awk -v one="$one" -v some="$(best taskset -c 0,$other "$plain" turn $turns 2)" -v other=$other \
