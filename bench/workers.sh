@@ -7,8 +7,9 @@
 # best of some runs of five rounds less the best of as many runs of one; the runs of all programs and
 # workers take turns.
 #
-# usage: bench/workers.sh [RUNS [TENTHS]]
+# usage: bench/workers.sh [RUNS [TENTHS [PROGRAM]]]
 # TENTHS is how long the sounds are, in tenths of a second: 600, one minute, unless it is said.
+# PROGRAM is bench_workers as it was built elsewhere; else it is built first.
 # It is run by hand on a machine that does nothing else; it tests nothing.
 set -eu
 cd "$(dirname "$0")/.."
@@ -17,9 +18,11 @@ tenths=${2:-600}
 turns=200000000
 work=$(mktemp -d)
 trap 'rm -rf "$work"' EXIT
-(cd crates/bench_workers && rt run -- 2 24 1 1 1 >"$work/log" 2>&1) || { cat "$work/log"; exit 1; }
-proved=crates/bench_workers/out/bench_workers
+proved=${3:-crates/bench_workers/out/bench_workers}
 plain=$work/plain
+if [ $# -lt 3 ]; then
+    (cd crates/bench_workers && rt run -- 2 24 1 1 1 >"$work/log" 2>&1) || { cat "$work/log"; exit 1; }
+fi
 gcc -O2 -DFAST -pthread -o "$plain" bench/workers.c
 
 # runs a command once, and adds its seconds by the clock to those of the same words
