@@ -41,8 +41,8 @@ fn main(rt: HostRuntime) -> Result<()> {
         bail!("usage: bench_imports WORK TIMES");
     };
     let times: u32 = times.as_str().parse()?;
-    let Ok(done) = do_work::<HostRuntime, Brand>(&rt, alloc, work.as_str(), times, Blank::new(1))
-    else {
+    let done = do_work::<HostRuntime, Brand>(&rt, alloc, work.as_str(), times, Blank::new(1));
+    let Ok(done) = done else {
         bail!("want of memory");
     };
     println!(rt; "{done}")?;
