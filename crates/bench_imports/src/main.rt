@@ -41,7 +41,11 @@ fn main(rt: HostRuntime) -> Result<()> {
         bail!("usage: bench_imports WORK TIMES");
     };
     let times: u32 = times.as_str().parse()?;
-    let done = do_work::<HostRuntime, Brand>(&rt, alloc, work.as_str(), times, Blank::new(1));
+    let done = if work.as_str() == "measure" {
+        measures(&rt, alloc, times)
+    } else {
+        changes::<HostRuntime, Brand>(&rt, alloc, work.as_str(), times, Blank::new(1))
+    };
     let Ok(done) = done else {
         bail!("want of memory");
     };
@@ -49,8 +53,8 @@ fn main(rt: HostRuntime) -> Result<()> {
     Ok(())
 }
 
-/// Does a work so many times: what it counts.
-fn do_work<R: Threads + Sync, L: Ledger>(
+/// Does a work on a library so many times: what it counts.
+fn changes<R: Threads + Sync, L: Ledger>(
     rt: &R,
     alloc: Global,
     work: &str,
@@ -63,7 +67,6 @@ fn do_work<R: Threads + Sync, L: Ledger>(
 {
     let mut steps: Steps<L> = Steps::new(blank);
     match work {
-        "measure" => measures(rt, alloc, times),
         "albums" => albums(rt, alloc, times, 0, &mut steps),
         "tokens" => albums(rt, alloc, times, ROUNDS, &mut steps),
         "regroup" => regroups(rt, alloc, times, &mut steps),

@@ -1,4 +1,4 @@
 use Rattle.bench_imports.proofs.main.Given as goal
 
-abbrev pub ghosts-do_work : goal.ghosts-do_work
-ghosts-do_work g a = record { name = a.blank.name; parts = a.blank.parts }
+abbrev pub ghosts-changes : goal.ghosts-changes
+ghosts-changes g a = record { name = a.blank.name; parts = a.blank.parts }
