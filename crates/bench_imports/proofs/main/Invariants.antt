@@ -1,4 +1,4 @@
 use Rattle.bench_imports.proofs.main.Given as goal
 
-abbrev pub ghosts-changes : goal.ghosts-changes
-ghosts-changes g a = record { name = a.blank.name; parts = a.blank.parts }
+abbrev pub ghosts-imports : goal.ghosts-imports
+ghosts-imports g a = record { name = a.blank.name; parts = a.blank.parts }
