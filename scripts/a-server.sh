@@ -3,9 +3,12 @@
 server=http://127.0.0.1:8330
 pid=
 
-# Ends the script where something listens at the port already (0x208A), which is neither asked nor ended.
+# Whether something listens at the port (0x208A), which is not asked.
+port_is_held() { grep -Eq ' [0-9A-F]{8}:208A [0-9A-F]{8}:0000 0A ' /proc/net/tcp; }
+
+# Ends the script where another program holds the port. It stays as it is.
 need_port() {
-    if grep -Eq ' [0-9A-F]{8}:208A [0-9A-F]{8}:0000 0A ' /proc/net/tcp; then
+    if port_is_held; then
         echo 'port 8330 is held by another program. In a network of its own a script has a port of its own:' >&2
         echo "    unshare -rn sh -c 'ip link set lo up; exec bash $0'" >&2
         exit 2

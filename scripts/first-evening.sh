@@ -273,6 +273,7 @@ done
 
 # an album's name, and where the lines go: an import begins, and a third of it is acknowledged
 begin_import() {
+    : >"$2"
     sh "$clone/examples/import-folder.sh" "$work/many" "$1" >"$2" &
     importing=$!
     while [ "$(grep -c ': recording' "$2")" -lt 20 ] && kill -0 "$importing" 2>/dev/null; do sleep 0.01; done
@@ -339,7 +340,7 @@ wait "$pid"
 check 'an end from outside' $? 143
 pid=
 check 'what was said of it' "$(grep -c 'it starts again' said)" 3
-need_port
+check 'the port is free' "$(port_is_held && echo held)" ''
 
 echo 'what the servers said of faults:'
 cat "$work"/*/all-faults | grep -v 'listening on' | sort | uniq -c

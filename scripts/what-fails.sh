@@ -14,6 +14,7 @@ if [ "${1-}" != on-full-disk ]; then
     work=$(mktemp -d)
     trap 'rm -rf "$work"' EXIT
     trap 'exit 1' HUP INT TERM
+    side=$work
 fi
 wrong=0
 
@@ -33,15 +34,15 @@ request() {
     cat "$4"
 }
 
-# Runs a session on standard input in the current folder: its exit status, the statuses of its replies and its
-# last line, what it said.
+# Runs a session on standard input in the current folder: its exit status and the statuses of its replies. What
+# it wrote and said is kept aside.
 session() {
-    timeout 120 "$program" session >out 2>said
-    echo "$? $(grep -ao 'HTTP/1.1 [0-9]*' out | cut -d ' ' -f 2 | xargs)"
+    timeout 120 "$program" session >"$side/out" 2>"$side/said"
+    echo "$? $(grep -ao 'HTTP/1.1 [0-9]*' "$side/out" | cut -d ' ' -f 2 | xargs)"
 }
 
 # what was said, one line behind another
-said() { paste -s -d '/' said; }
+said() { paste -s -d '/' "$side/said"; }
 
 # ---- a full disk
 
@@ -49,32 +50,33 @@ said() { paste -s -d '/' said; }
 fill() { head -c $(($(df -B 1 --output=avail . | tail -n 1) - $1)) /dev/zero >filler; }
 
 on_full_disk() {
-    sh "$clone/examples/one-second.sh" >tone.wav
-    printf '{"name":"%0200d"}' 0 >name
-    { request POST /albums a name && request POST /recordings b tone.wav; } >begin
-    check 'where there is room' "$(session <begin)" '0 201 201'
+    local made failed i
+    printf '{"name":"%0200d"}' 0 >"$side/name"
+    for ((i = 0; i < 60; i++)); do request POST /albums "d-$i" "$side/name"; done >"$side/many"
+    for ((i = 1; i <= 62; i++)); do printf 'GET /albums/%d HTTP/1.1\r\n\r\n' "$i"; done >"$side/asked"
+    check 'where there is room' "$({ request POST /albums a "$side/name" &&
+        request POST /recordings b "$side/tone.wav"; } | session)" '0 201 201'
     fill 60000
-    check 'a file that finds no room' "$(request POST /recordings c tone.wav | session)" '0 502'
+    check 'a file that finds no room' "$(request POST /recordings c "$side/tone.wav" | session)" '0 502'
     check 'why' "$(said)" 'loudlib: takes/2.bin: No space left on device (os error 28)'
     check 'nothing is left of it' "$(ls takes)" 1.bin
     rm filler
-    check 'with room again' "$(request POST /recordings c tone.wav | session)" '0 201'
+    check 'with room again' "$(request POST /recordings c "$side/tone.wav" | session)" '0 201'
     fill 30000
-    for ((i = 0; i < 60; i++)); do request POST /albums "d-$i" name; done >many
-    for ((i = 1; i <= 62; i++)); do printf 'GET /albums/%d HTTP/1.1\r\n\r\n' "$i"; done >asked
-    session <many >told
-    made=$(tr ' ' '\n' <told | grep -c 201)
-    failed=$(tr ' ' '\n' <told | grep -c 504)
+    session <"$side/many" >"$side/told"
+    made=$(tr ' ' '\n' <"$side/told" | grep -c 201)
+    failed=$(tr ' ' '\n' <"$side/told" | grep -c 504)
     check "rows that find no room, behind $made that did" "$((made < 60 && made + failed == 60))" 1
-    echo "    $(sort said | uniq -c | xargs)"
+    sort "$side/said" | uniq -c
     rm filler
-    check 'a start with room again' "$(session <asked | tr ' ' '\n' | grep -c 200)" "$((made + 1))"
-    check 'and the changes that failed again' "$(session <many | tr ' ' '\n' | grep -c 201)" 60
-    check 'are done once' "$(session <asked | tr ' ' '\n' | grep -c 200)" 61
+    check 'a start with room again' "$(session <"$side/asked" | tr ' ' '\n' | grep -c 200)" "$((made + 1))"
+    check 'and the changes that failed again' "$(session <"$side/many" | tr ' ' '\n' | grep -c 201)" 60
+    check 'are done once' "$(session <"$side/asked" | tr ' ' '\n' | grep -c 200)" 61
     [ "$wrong" -eq 0 ]
 }
 
 if [ "${1-}" = on-full-disk ]; then
+    side=$3
     mount -t tmpfs -o size=2m none "$2" && cd "$2" && on_full_disk
     exit
 fi
@@ -88,7 +90,7 @@ start_of() {
     cd "$work/library" || exit 1
     eval "$2"
     check "$1: status" "$(session </dev/null | xargs)" "$3"
-    check "$1: what is said" "$(said)$(grep -a '^bad row' out)" "$4"
+    check "$1: what is said" "$(said)$(grep -a '^bad row' "$side/out")" "$4"
 }
 
 mkdir "$work/sound" && cd "$work/sound" || exit 1
@@ -99,10 +101,13 @@ check 'a library' "$(session <begin)" '0 201 201'
 locked='loudlib: library.db: '
 start_of 'a text in place of the database' 'rm library.db*; echo text >library.db' 6 \
     "${locked}file is not a database that obeys its schema"
-start_of 'a folder in place of it' 'rm library.db*; mkdir library.db' 6 "${locked}Is a directory (os error 21)"
+start_of 'a folder in place of it' 'rm library.db*; mkdir library.db' 6 "${locked}unable to open database file"
 start_of 'no database beside takes' 'rm library.db*' 6 \
     "${locked}a new database, where the folder of takes holds files"
-check 'and none is made' "$(ls -d library.db* 2>/dev/null)" ''
+check 'nor by a second start: status' "$(session </dev/null | xargs)" 6
+cp "$work/sound/library.db" library.db
+check 'the database put back' "$(request POST /recordings a "$work/tone.wav" | session)" '0 201'
+check 'it has its recordings' "$(printf 'GET /recordings/%d HTTP/1.1\r\n\r\n' 1 2 3 | session)" '0 200 200 404'
 start_of 'an empty folder of takes' 'rm -r library.db* takes; mkdir takes' 0 ''
 
 if command -v sqlite3 >/dev/null; then
@@ -136,7 +141,7 @@ check 'they make no file' "$(ls)" ''
 
 if unshare -rm true 2>/dev/null; then
     mkdir "$work/disk"
-    unshare -rm bash "$clone/scripts/what-fails.sh" on-full-disk "$work/disk" || wrong=$((wrong + 1))
+    unshare -rm bash "$clone/scripts/what-fails.sh" on-full-disk "$work/disk" "$work" || wrong=$((wrong + 1))
 else
     echo 'passed over: a full disk, since nothing may be mounted here'
 fi
