@@ -134,7 +134,7 @@ imports() {
         music $bits "$sound" "$work/$bits.wav"
         import_row "$work/$bits.wav" "$sound"
         if has flac; then
-            flac -s -f -5 "$work/$bits.wav" -o "$work/$bits.flac"
+            flac -s -f -5 "$work/$bits.wav" -o "$work/$bits.flac" 2>"$work/told"
             import_row "$work/$bits.flac" "$sound"
         fi
     done

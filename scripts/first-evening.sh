@@ -138,7 +138,7 @@ else
     pass 'waves of ffmpeg, of 5.1 channels: it is not here'
 fi
 if has flac; then
-    find "$archive" -name '*.wav' -exec flac -s -f {} +
+    find "$archive" -name '*.wav' -exec flac -s -f {} + 2>"$work/warnings"
 elif has ffmpeg; then
     find "$archive" -name '*.wav' -exec sh -c 'ffmpeg -nostdin -v error -i "$1" "${1%.wav}.flac"' sh {} \;
 else

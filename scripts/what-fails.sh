@@ -104,6 +104,7 @@ start_of 'a text in place of the database' 'rm library.db*; echo text >library.d
 start_of 'a folder in place of it' 'rm library.db*; mkdir library.db' 6 "${locked}unable to open database file"
 start_of 'no database beside takes' 'rm library.db*' 6 \
     "${locked}a new database, where the folder of takes holds files"
+check 'none is made' "$(ls -d library.db* 2>/dev/null)" ''
 check 'nor by a second start: status' "$(session </dev/null | xargs)" 6
 cp "$work/sound/library.db" library.db
 check 'the database put back' "$(request POST /recordings a "$work/tone.wav" | session)" '0 201'
