@@ -227,10 +227,11 @@ each_repeated : (s : State) (exchanges : List Exchange) (last : State) (released
     (answers : Answers s exchanges last released) → kept_under token s.replies ≡ Some kept
     → Each (IsRepeat token kept) s exchanges last released answers
 each_repeated s [] last released token kept answers is = tt
-each_repeated s (e ∷ exchanges) last released token kept answers is =
-    (repeated s token kept e answers.0 is answers.2,
-    each_repeated answers.0 exchanges last answers.1 token kept answers.3
-    (answer_keeps s e.request e.reply answers.0 token kept answers.2 is))
+each_repeated s (e ∷ exchanges) last released token kept answers is = (
+  repeated s token kept e answers.0 is answers.2,
+  each_repeated answers.0 exchanges last answers.1 token kept answers.3
+      (answer_keeps s e.request e.reply answers.0 token kept answers.2 is),
+)
 
 -- From a state in which a token is kept, each change under it leaves the state and is given what is kept again, or is refused; and the
 -- token is kept so in the end.
@@ -244,7 +245,8 @@ acts_once s exchanges last released token kept answers is =
 pub accepted_once : (s : State) (exchanges : List Exchange) (last : State) (released : List ℕ) (token : List ℕ)
     (answers : Answers s exchanges last released) → ChangesOnce token s exchanges last released answers
 accepted_once s [] last released token answers = tt
-accepted_once s (e ∷ exchanges) last released token answers =
-    (λ mark wanted asks changes. each_repeated answers.0 exchanges last answers.1 token (kept_reply token mark e.reply) answers.3
-    (changed_kept s token mark wanted e.reply answers.0 changes (subst (λ (q : Asked). Answer s q e.reply answers.0) asks answers.2)),
-    accepted_once answers.0 exchanges last answers.1 token answers.3)
+accepted_once s (e ∷ exchanges) last released token answers = (
+  λ mark wanted asks changes. each_repeated answers.0 exchanges last answers.1 token (kept_reply token mark e.reply) answers.3
+      (changed_kept s token mark wanted e.reply answers.0 changes (subst (λ (q : Asked). Answer s q e.reply answers.0) asks answers.2)),
+  accepted_once answers.0 exchanges last answers.1 token answers.3,
+)
