@@ -6,8 +6,9 @@
 # and system together; how 4 workers compare with the faster tool by four processes: the goals are 1 for
 # FLAC and 2 for a wave; and the most memory that a run holds, over the file's size.
 #
-# usage: bench/files.sh [RUNS [SECONDS]]
-# SECONDS is how long the sounds are: 300 unless it is said.
+# usage: bench/files.sh [RUNS [SECONDS [PROGRAM]]]
+# SECONDS is how long the sounds are: 300 unless it is said. PROGRAM is bench_files as it was built elsewhere;
+# else it is built first.
 # It is run by hand on a machine that does nothing else; it tests nothing.
 set -eu
 cd "$(dirname "$0")/.."
@@ -16,8 +17,10 @@ runs=${1:-5}
 seconds=${2:-300}
 work=$(mktemp -d)
 trap 'rm -rf "$work"' EXIT
-(cd crates/bench_files && rt run -- none >"$work/log" 2>&1) || { cat "$work/log"; exit 1; }
-proved=crates/bench_files/out/bench_files
+proved=${3:-crates/bench_files/out/bench_files}
+if [ $# -lt 3 ]; then
+    (cd crates/bench_files && rt run -- none >"$work/log" 2>&1) || { cat "$work/log"; exit 1; }
+fi
 gcc -O2 -o "$work/music" bench/music.c -lm
 
 # what is timed of a file: the path

@@ -4,7 +4,8 @@
 # time of some runs of each, user and system together, without what the first round takes: the goals are 1.5
 # times a copy with the zeros before it, and 100 ms a head.
 #
-# usage: bench/inbox.sh [RUNS]
+# usage: bench/inbox.sh [RUNS [PROGRAM]]
+# PROGRAM is bench_inbox as it was built elsewhere; else it is built first.
 # It is run by hand on a machine that does nothing else; it tests nothing.
 set -eu
 cd "$(dirname "$0")/.."
@@ -12,8 +13,10 @@ runs=${1:-9}
 work=$(mktemp -d)
 trap 'rm -rf "$work"' EXIT
 
-(cd crates/bench_inbox && rt run -- head 1 >"$work/log" 2>&1) || { cat "$work/log"; exit 1; }
-proved=crates/bench_inbox/out/bench_inbox
+proved=${2:-crates/bench_inbox/out/bench_inbox}
+if [ $# -lt 2 ]; then
+    (cd crates/bench_inbox && rt run -- head 1 >"$work/log" 2>&1) || { cat "$work/log"; exit 1; }
+fi
 gcc -O2 -o "$work/body" bench/body.c
 
 # seconds of processor time of a program

@@ -2,7 +2,7 @@
 # Times the proved meters, and what decodes FLAC, beside plain C of the same definitions (gcc -O2) on the
 # same samples, compares their checksums, and prints the median of the ratios of their processor times.
 #
-# With another program, as it was built before a change, it times an import by both.
+# With the path of another program, as it was built before a change, it times an import by both.
 #
 # usage: bench/run.sh [RUNS [BEFORE]]
 # It is run by hand on a machine that does nothing else; it tests nothing.
@@ -94,7 +94,7 @@ else
     echo 'a whole read of FLAC: skipped, flac is not here'
 fi
 
-# ---- a session of one import that nearly fills the input's limit: a wave of noise, two channels of 16 bits
+# ---- a session of one import of 1 MiB: a wave of noise, two channels of 16 bits
 
 # a number as four bytes, the lowest first
 number() {
@@ -104,17 +104,21 @@ number() {
 
 data=1048000
 {
-    printf 'POST /recordings HTTP/1.1\r\nContent-Length: %d\r\n\r\nRIFF' $((44 + data))
+    printf 'POST /recordings HTTP/1.1\r\nRequest-Token: a\r\nContent-Length: %d\r\n\r\nRIFF' $((44 + data))
     number $((36 + data))
     printf 'WAVEfmt \x10\0\0\0\x01\0\x02\0\x80\xbb\0\0\0\xee\x02\0\x04\0\x10\0data'
     number $data
     head -c $data /dev/urandom
 } >"$work/import.http"
 
-# the same session, 20 times
+# the same session, 20 times, each over a library of its own
 imports() {
     local run
-    for ((run = 0; run < 20; run++)); do "$1" session <"$work/import.http"; done
+    for ((run = 0; run < 20; run++)); do
+        rm -rf "$work/library"
+        mkdir "$work/library"
+        (cd "$work/library" && "$1" session) <"$work/import.http"
+    done
 }
 
 # what the program is, and the program
@@ -131,4 +135,4 @@ import_time() {
 }
 
 if [ -n "$before" ]; then import_time 'by the program before' "$before"; fi
-import_time 'by this program' ./loudlib
+import_time 'by this program' "$PWD/loudlib"

@@ -6,9 +6,10 @@
 # usage: scripts/believed.sh            the definitions: what reaches them, crate, file, name
 #        scripts/believed.sh --types    the types and constants of src/ that these name
 #        scripts/believed.sh --check    whether docs/DEFINITIONS.md lists each definition of the specs,
-#                                       and marks these; ends with 1 where it does not
-#        scripts/believed.sh --write    writes the marks into that page, and, of definitions that it
-#                                       does not list, a row with the comment above the definition
+#                                       by the comment above it, and marks these; ends with 1 where it
+#                                       does not
+#        scripts/believed.sh --write    writes the comments and the marks into that page, and adds a row
+#                                       for each definition that it does not list
 #
 # What reaches a definition is `run` where a clause of `run` does, and `objects` where only the clauses
 # of the traits do that its objects have to meet: these are what it is promised under.
@@ -18,7 +19,7 @@ command -v python3 >/dev/null || { echo 'believed.sh: python3 is not here' >&2; 
 exec python3 - "$@" <<'PYTHON'
 import glob, os, re, sys
 
-USE = re.compile(r"^\s*(?:ghost )?use Rattle\.([A-Za-z0-9_.]+?)(?:\.\{([^}]*)\}| as (\w+))?;?\s*$")
+USE = re.compile(r"^\s*(?:ghost |(?:unfoldable )?pub )?use Rattle\.([A-Za-z0-9_.]+?)(?:\.\{([^}]*)\}| as (\w+))?;?\s*$")
 OWN = {os.path.basename(path) for path in glob.glob("crates/*")}
 
 
@@ -59,7 +60,7 @@ def read_specs(path):
             comment.append(before[3:])
         elif not before.strip():
             comment = []
-        if not line.strip() or re.match(r"use |module |pub (mod|use) |infix", line):
+        if not line.strip() or re.match(r"use |module |(unfoldable )?pub (mod|use) |infix", line):
             continue
         head = re.match(r"(?:(?:abbrev|unfoldable|pub) )*(?:(record|data) )?(\S+)(.*)$", line)
         begins = re.match(r"(abbrev|unfoldable|pub|record|data) ", line)
@@ -106,13 +107,20 @@ def names_in(module, text):
             yield module.imports["◌>>=◌"]
 
 
+def defined(path, name):
+    """Where a name is defined that a file of specs may pass on."""
+    while path in specs and name not in specs[path].home and name in specs[path].imports:
+        path, name = specs[path].imports[name]
+    return path, name
+
+
 def reach(module, text, own, seen, types):
     """Adds what the text reaches."""
     todo = [(module, own, text)]
     while todo:
         module, own, text = todo.pop()
         for path, name in names_in(module, text):
-            path = path or own
+            path, name = defined(path or own, name)
             if path in specs:
                 target = specs[path]
                 name = target.home.get(name)
@@ -178,12 +186,21 @@ def page_rows(lines):
             yield at, crate, row.group(1), re.findall(r"`(.*?)`", row.group(2)), row.group(3), row.group(4) or ""
 
 
+def comment_of(crate, file, names, text):
+    """The text of a row: the comment above its definition, or what it has where it is of several."""
+    module = specs.get(crate + ".specs." + file)
+    comment = module.comments.get(names[0]) if module and len(names) == 1 else None
+    return comment.replace("|", "\\|") if comment else text
+
+
 def check(lines):
     """What the page says otherwise than the specs."""
     listed = {}
     for at, crate, file, names, text, mark in page_rows(lines):
         for name in names:
             listed[crate, file, name] = mark
+        if text != comment_of(crate, file, names, text):
+            yield "another text than the specs': " + " ".join((crate, file, names[0]))
     for row in there:
         if row not in listed:
             yield "not in the page: " + " ".join(row)
@@ -206,11 +223,11 @@ def write(lines):
             if "## " + crate not in lines:
                 continue
             before = [lines.index("|---|---|---|---|", lines.index("## " + crate))]
-        text = specs[crate + ".specs." + file].comments[name].replace("|", "\\|")
+        text = comment_of(crate, file, [name], "")
         lines.insert(before[-1] + 1 if before else places[0][0], "| %s | `%s` | %s |" % (file, name, text))
     for at, crate, file, names, text, _ in list(page_rows(lines)):
         shown = ", ".join("`%s`" % name for name in names)
-        mark = rows.get((crate, file, names[0]), "")
+        text, mark = comment_of(crate, file, names, text), rows.get((crate, file, names[0]), "")
         lines[at] = "| %s | %s | %s |" % (file, shown, text) + (" %s |" % mark if mark else "")
     return lines
 

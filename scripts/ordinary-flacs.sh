@@ -86,8 +86,10 @@ ordinary() {
 
 # the body of the reply to the import of a file, as the first of a library
 reply() {
-    { printf 'POST /recordings HTTP/1.1\r\nContent-Length: %d\r\n\r\n' "$(stat -c %s "$1")"; cat "$1"; } |
-        "$program" session 2>>log | tail -n 1
+    rm -rf library
+    mkdir library
+    { printf 'POST /recordings HTTP/1.1\r\nRequest-Token: a\r\nContent-Length: %d\r\n\r\n' "$(stat -c %s "$1")"; cat "$1"; } |
+        (cd library && "$program" session) 2>>log | tail -n 1
 }
 
 # What is wanted of the import of a wave's sound as FLAC: the reply to the wave, but for the kind, and the
@@ -106,7 +108,7 @@ check_import() {
     case $wave in
     8_*)
         case $got in
-        "{\"channels\":${wave#*_},\"depth\":8,\"frames\":9000,"*'"kind":"flac"'*) wanted=$got ;;
+        "{\"album\":null,\"channels\":${wave#*_},\"depth\":8,\"frames\":9000,"*'"kind":"flac"'*) wanted=$got ;;
         *) wanted="channels ${wave#*_}, depth 8, frames 9000, kind flac" ;;
         esac
         ;;

@@ -1,7 +1,7 @@
 //! Albums: recordings put in and taken out.
 ghost use Rattle.std.specs.Prelude.{◌≡◌, ◌≤◌, ◌<◌, ◌+◌, ℕ, List, [], Contains, All, length, slice_index, IfOk, IfErr, IfSome, IfNone};
 ghost use Rattle.lib_base.specs.declared.files.Measured.{Measured};
-ghost use Rattle.album_merge.specs.Bounds.{most_recordings};
+ghost use Rattle.lib_base.specs.declared.limits.TheConstants.{MOST_MEMBERS};
 ghost use Rattle.album_merge.specs.Tallies.{StandsForMeasured};
 
 use crate::TrackTally;
@@ -22,7 +22,7 @@ pub struct Album {
 
 impl Model for Album {
     ghost use Rattle.std.specs.Prelude.{◌≤◌, ◌+◌, ◌*◌, length, vec_capacity};
-    ghost use Rattle.album_merge.specs.Bounds.{most_recordings};
+    ghost use Rattle.lib_base.specs.declared.limits.TheConstants.{MOST_MEMBERS};
     ghost use Rattle.album_merge.specs.Members.{Kept, AscendBy, member_id};
 
     ghost Value = { Kept };
@@ -30,9 +30,9 @@ impl Model for Album {
     ghost view = { λ a. record { members = a.members.items; spare = a.spare } };
 
     ghost invariant = { λ a. AscendBy member_id a.members.items
-        × (length a.members.items ≤ most_recordings)
+        × (length a.members.items ≤ MOST_MEMBERS)
         × (length a.members.items + a.spare ≤ vec_capacity a.members)
-        × (length a.members.items + a.spare ≤ 2 * most_recordings) };
+        × (length a.members.items + a.spare ≤ 2 * MOST_MEMBERS) };
 }
 
 impl Album {
@@ -53,7 +53,7 @@ impl Album {
 
     /// Makes room for so many recordings more. Refused, it changes nothing.
     pub fn reserve(&mut self, more: u32) -> Result<(), Memory>
-        requires { more ≤ most_recordings }
+        requires { more ≤ MOST_MEMBERS }
         ensures album { (recordings : List (ℕ × Measured)) → IsAlbumOf self.old recordings → IsAlbumOf self.new recordings }
         ensures ids { ids_of self.new ≡ ids_of self.old }
         ensures room { IfOk result (λ _. more ≤ self.new.spare) }
@@ -69,7 +69,7 @@ impl Album {
     pub fn add(&mut self, id: u32, tally: TrackTally)
         requires spare { 0 < self.old.spare }
         requires fresh { ¬ Contains (ids_of self.old) id }
-        requires few { length (ids_of self.old) < most_recordings }
+        requires few { length (ids_of self.old) < MOST_MEMBERS }
         ensures album { (recordings : List (ℕ × Measured)) (measured : Measured) → IsAlbumOf self.old recordings
             → StandsForMeasured tally measured → IsAlbumOf self.new (with_recording id measured recordings) }
         ensures ids { ids_of self.new ≡ placed (λ (n : ℕ). n) id (ids_of self.old) }
@@ -92,7 +92,7 @@ impl Album {
         ensures ids { ids_of self.new ≡ without (λ (n : ℕ). n) id (ids_of self.old) }
         ensures gone { ¬ Contains (ids_of self.new) id }
         ensures spare { IfSome result (λ _. self.new.spare ≡ self.old.spare + 1) }
-        ensures few { IfSome result (λ _. length (ids_of self.new) < most_recordings) }
+        ensures few { IfSome result (λ _. length (ids_of self.new) < MOST_MEMBERS) }
     {
         self.take_out(id)
     }
@@ -100,7 +100,7 @@ impl Album {
     /// How many recordings it has.
     pub fn len(&self) -> usize
         ensures value { result ≡ length (ids_of self.now) }
-        ensures few { result ≤ most_recordings }
+        ensures few { result ≤ MOST_MEMBERS }
     {
         self.members.len()
     }
@@ -116,7 +116,7 @@ impl Album {
     /// Its recordings, in ascending order of ids.
     pub(crate) fn members(&self) -> &[Member]
         ensures value { result.now ≡ self.now.members }
-        ensures few { length result.now ≤ most_recordings }
+        ensures few { length result.now ≤ MOST_MEMBERS }
     {
         self.members.as_slice()
     }
@@ -125,7 +125,7 @@ impl Album {
     pub(crate) fn put_in(&mut self, id: u32, tally: TrackTally)
         requires spare { 0 < self.old.spare }
         requires fresh { ¬ Contains (ids_of self.old) id }
-        requires few { length (ids_of self.old) < most_recordings }
+        requires few { length (ids_of self.old) < MOST_MEMBERS }
         ensures ascend { AscendBy member_id self.old.members }
         ensures members { self.new.members ≡ placed member_id (record { id = id; tally = tally }) self.old.members }
         ensures spare { self.new.spare + 1 ≡ self.old.spare }
@@ -146,7 +146,7 @@ impl Album {
         ensures back { IfSome result (λ tally. self.old.members ≡ placed member_id (record { id = id; tally = tally }) self.new.members) }
         ensures members { self.new.members ≡ without member_id id self.old.members }
         ensures spare { IfSome result (λ _. self.new.spare ≡ self.old.spare + 1) }
-        ensures few { IfSome result (λ _. length (ids_of self.new) < most_recordings) }
+        ensures few { IfSome result (λ _. length (ids_of self.new) < MOST_MEMBERS) }
     {
         let place = place_of(&self.members, id);
         if place == self.members.len() || self.members[place].id != id {

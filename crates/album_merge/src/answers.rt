@@ -1,10 +1,10 @@
 //! What an album answers.
 ghost use Rattle.std.specs.Prelude.{◌≡◌, ◌≤◌, ℕ, List, unsigned_abs, IfSome};
 ghost use Rattle.lib_base.specs.declared.files.Measured.{Measured};
+ghost use Rattle.lib_base.specs.declared.limits.TheConstants.{GREATEST_PEAK};
 ghost use Rattle.sound_model.specs.Albums.{IsAlbumSummary, album_frames, album_blocks, album_windows, album_peak};
 ghost use Rattle.sound_model.specs.Loudness.{IsLoudness, IfThere, IsBlockLevel, IsWindowLevel, above_zero, greatest};
 ghost use Rattle.sound_model.specs.Ranges.{IsRange};
-ghost use Rattle.sound_model.specs.Summaries.{greatest_peak};
 
 use crate::Album;
 use crate::loudness::loudness_of;
@@ -60,7 +60,7 @@ impl Album {
     pub fn peak(&self) -> u64
         ensures value { (recordings : List (ℕ × Measured)) → IsAlbumOf self.now recordings
             → result ≡ album_peak (measured_of recordings) }
-        ensures within { result ≤ greatest_peak }
+        ensures within { result ≤ GREATEST_PEAK }
     {
         peak_of(self.members())
     }

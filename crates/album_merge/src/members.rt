@@ -1,8 +1,6 @@
 //! The recordings of an album, and what they have together.
 ghost use Rattle.std.specs.Prelude.{◌≡◌, ◌≤◌, ◌*◌, length};
-ghost use Rattle.sound_model.specs.Segments.{greatest_energy};
-ghost use Rattle.sound_model.specs.Summaries.{most_frames, greatest_peak};
-ghost use Rattle.album_merge.specs.Bounds.{most_recordings};
+ghost use Rattle.lib_base.specs.declared.limits.TheConstants.{GREATEST_ENERGY, GREATEST_PEAK, BLOCK_SEGMENTS, WINDOW_SEGMENTS, MOST_MEMBERS};
 ghost use Rattle.album_merge.specs.Members.{AscendBy, IsPlaceOf, member_id};
 ghost use Rattle.album_merge.specs.Joined.{frames_in, greatest_block_in, greatest_window_in, peak_in};
 
@@ -17,7 +15,7 @@ pub struct Member {
 
 /// The frames of all members.
 pub(crate) fn frames_of(members: &[Member]) -> u64
-    requires { length members.now ≤ most_recordings }
+    requires { length members.now ≤ MOST_MEMBERS }
     ensures { result ≡ frames_in members.now }
 {
     let mut frames = 0;
@@ -30,7 +28,7 @@ pub(crate) fn frames_of(members: &[Member]) -> u64
 /// The greatest peak of the members, 0 where there is none.
 pub(crate) fn peak_of(members: &[Member]) -> u64
     ensures value { result ≡ peak_in members.now }
-    ensures within { result ≤ greatest_peak }
+    ensures within { result ≤ GREATEST_PEAK }
 {
     let mut most = 0u64;
     for member in members {
@@ -42,7 +40,7 @@ pub(crate) fn peak_of(members: &[Member]) -> u64
 /// The energy of the greatest block of the members, 0 where there is none.
 pub(crate) fn greatest_block_of(members: &[Member]) -> u128
     ensures value { result ≡ greatest_block_in members.now }
-    ensures within { result ≤ 4 * greatest_energy }
+    ensures within { result ≤ BLOCK_SEGMENTS * GREATEST_ENERGY }
 {
     let mut most = 0u128;
     for member in members {
@@ -54,7 +52,7 @@ pub(crate) fn greatest_block_of(members: &[Member]) -> u128
 /// The energy of the greatest window of the members, 0 where there is none.
 pub(crate) fn greatest_window_of(members: &[Member]) -> u128
     ensures value { result ≡ greatest_window_in members.now }
-    ensures within { result ≤ 30 * greatest_energy }
+    ensures within { result ≤ WINDOW_SEGMENTS * GREATEST_ENERGY }
 {
     let mut most = 0u128;
     for member in members {

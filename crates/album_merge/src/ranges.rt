@@ -1,7 +1,7 @@
 //! The loudness range of an album, over its recordings' windows with no list joined.
 ghost use Rattle.std.specs.Prelude.{◌≡◌, ◌<◌, ◌≤◌, ◌*◌, ◌&&◌, ℕ, List, All, filter, length, sum, count_by, nat_lt, nat_le, true, IsPermutation};
+ghost use Rattle.lib_base.specs.declared.limits.TheConstants.{MOST_MEMBERS, MOST_SEGMENTS};
 ghost use Rattle.sound_model.specs.Ranges.{IsRange, is_window_audible};
-ghost use Rattle.album_merge.specs.Bounds.{most_segments, most_recordings};
 ghost use Rattle.album_merge.specs.Joined.{windows_in, greatest_window_in};
 
 use crate::members::{Member, greatest_window_of};
@@ -11,7 +11,7 @@ use loudness_range::{WindowTally, percentile_place};
 /// The range of all windows of the members in hundredths of LU, absent exactly where none passes both
 /// gates.
 pub(crate) fn range_of(members: &[Member]) -> Option<i32>
-    requires { length members.now ≤ most_recordings }
+    requires { length members.now ≤ MOST_MEMBERS }
     ensures { (windows : List ℕ) → IsPermutation (filter is_window_audible windows) (windows_in members.now) → IsRange windows result }
 {
     let least = audible_windows(members).least_passing();
@@ -28,7 +28,7 @@ pub(crate) fn range_of(members: &[Member]) -> Option<i32>
 
 /// Tallies the windows from -70 LUFS on.
 fn audible_windows(members: &[Member]) -> WindowTally
-    requires { length members.now ≤ most_recordings }
+    requires { length members.now ≤ MOST_MEMBERS }
     ensures count { result.count ≡ length (windows_in members.now) }
     ensures sum { result.sum ≡ sum (windows_in members.now) }
     ensures within { All (λ z. z ≤ greatest_window_in members.now) (windows_in members.now) }
@@ -43,7 +43,7 @@ fn audible_windows(members: &[Member]) -> WindowTally
 /// Of the windows from `least` on, the one at a place when they stand in ascending order: found by
 /// halving the numbers from `least` to `most`.
 fn window_at(members: &[Member], place: u64, least: u128, most: u128) -> u128
-    requires few { length members.now ≤ most_recordings }
+    requires few { length members.now ≤ MOST_MEMBERS }
     requires order { least ≤ most }
     requires audible { (e : ℕ) → least ≤ e → is_window_audible e ≡ true }
     requires some { place < count_by (λ (e : ℕ). nat_le least e && nat_le e most) (windows_in members.now) }
@@ -67,7 +67,7 @@ fn window_at(members: &[Member], place: u64, least: u128, most: u128) -> u128
 
 /// How many windows of the members are from `least` to `most`.
 fn count_between(members: &[Member], least: u128, most: u128) -> u64
-    requires few { length members.now ≤ most_recordings }
+    requires few { length members.now ≤ MOST_MEMBERS }
     requires audible { (e : ℕ) → least ≤ e → is_window_audible e ≡ true }
     ensures { result ≡ count_by (λ (e : ℕ). nat_le least e && nat_le e most) (windows_in members.now) }
 {
@@ -80,10 +80,10 @@ fn count_between(members: &[Member], least: u128, most: u128) -> u64
 
 /// How many windows are from `least` to `most`.
 fn count_of(windows: &[u128], least: u128, most: u128) -> u64
-    requires few { length windows.now ≤ most_segments }
+    requires few { length windows.now ≤ MOST_SEGMENTS }
     requires audible { (e : ℕ) → least ≤ e → is_window_audible e ≡ true }
     ensures value { result ≡ count_by (λ (e : ℕ). nat_le least e && nat_le e most) (filter is_window_audible windows.now) }
-    ensures few { result ≤ most_segments }
+    ensures few { result ≤ MOST_SEGMENTS }
 {
     let mut count = 0;
     for energy in windows {

@@ -1,8 +1,9 @@
 //! The levels that follow from blocks, windows and a peak.
 ghost use Rattle.std.specs.Prelude.{◌≡◌, ◌≤◌, ◌^◌, ℕ, unsigned_abs, All, option_map, IfOk, IfSome};
+ghost use Rattle.lib_base.specs.declared.limits.TheConstants.{GREATEST_PEAK};
 ghost use Rattle.gate_blocks.specs.Bounds.{AreBlocks, AreWindows};
 ghost use Rattle.sound_model.specs.Loudness as model;
-ghost use Rattle.sound_model.specs.Summaries.{Summarises, IsPeakLevel, gain_of, greatest_peak};
+ghost use Rattle.sound_model.specs.Summaries.{Summarises, IsPeakLevel, gain_of};
 
 use db_table::{hundredths, level};
 use gate_blocks::{block_level, window_level};
@@ -24,7 +25,7 @@ pub fn summarise(
 ) -> Result<Summary, Memory>
     requires blocks { AreBlocks blocks.now }
     requires windows { AreWindows windows.now }
-    requires peak { peak ≤ greatest_peak }
+    requires peak { peak ≤ GREATEST_PEAK }
     ensures { IfOk result (Summarises frames blocks.now windows.now peak) }
 {
     let loudness = gate_blocks::loudness(blocks);
@@ -54,7 +55,7 @@ pub(crate) fn greatest(energies: &[u128]) -> u128
 
 /// The true peak of a peak, absent exactly where it is 0.
 pub(crate) fn peak_level(peak: u64) -> Option<i32>
-    requires { peak ≤ greatest_peak }
+    requires { peak ≤ GREATEST_PEAK }
     ensures { model.IfThere IsPeakLevel (model.above_zero peak) result }
 {
     if peak == 0 {
@@ -64,7 +65,7 @@ pub(crate) fn peak_level(peak: u64) -> Option<i32>
 }
 
 fn squared(peak: u64) -> u128
-    requires { peak ≤ greatest_peak }
+    requires { peak ≤ GREATEST_PEAK }
     ensures value { result ≡ peak ^ 2 }
     ensures bound { result ≤ 2 ^ 76 }
 {

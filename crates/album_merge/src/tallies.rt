@@ -1,12 +1,11 @@
 //! Tallies of recordings.
 ghost use Rattle.std.specs.Prelude.{◌≡◌, ◌≤◌, ◌<◌, ◌*◌, ◌^◌, ℕ, filter, length, All, IfOk};
 ghost use Rattle.lib_base.specs.declared.files.Measured.{Measured as Recording};
+ghost use Rattle.lib_base.specs.declared.limits.TheConstants.{GREATEST_ENERGY, MOST_SAMPLES, GREATEST_PEAK, BLOCK_SEGMENTS, WINDOW_SEGMENTS, MOST_SEGMENTS};
 ghost use Rattle.sound_model.specs.Albums.{SummarisesMeasured};
 ghost use Rattle.sound_model.specs.Loudness.{is_audible};
 ghost use Rattle.sound_model.specs.Ranges.{is_window_audible};
-ghost use Rattle.sound_model.specs.Segments.{greatest_energy};
-ghost use Rattle.sound_model.specs.Summaries.{IsWithinBounds, most_frames, greatest_peak};
-ghost use Rattle.album_merge.specs.Bounds.{most_segments};
+ghost use Rattle.sound_model.specs.Summaries.{IsWithinBounds};
 ghost use Rattle.album_merge.specs.Tallies.{StandsForMeasured};
 
 use crate::summaries::{greatest, summarise};
@@ -81,8 +80,8 @@ impl TrackTally {
     pub fn summary(&self) -> Summary
         ensures value { (measured : Recording) → StandsForMeasured self.now measured → SummarisesMeasured measured result }
         ensures kept { result ≡ self.now.summary }
-        ensures frames { result.frames ≤ most_frames }
-        ensures peak { result.peak ≤ greatest_peak }
+        ensures frames { result.frames ≤ MOST_SAMPLES }
+        ensures peak { result.peak ≤ GREATEST_PEAK }
     {
         self.summary
     }
@@ -90,8 +89,8 @@ impl TrackTally {
     /// The energies of its blocks.
     pub(crate) fn blocks(&self) -> &[u128]
         ensures audible { filter is_audible result.now ≡ self.now.blocks }
-        ensures within { All (λ z. z ≤ 4 * greatest_energy) result.now }
-        ensures few { length result.now ≤ most_segments }
+        ensures within { All (λ z. z ≤ BLOCK_SEGMENTS * GREATEST_ENERGY) result.now }
+        ensures few { length result.now ≤ MOST_SEGMENTS }
     {
         self.blocks.as_slice()
     }
@@ -101,7 +100,7 @@ impl TrackTally {
         ensures audible { filter is_window_audible result.now ≡ self.now.windows }
         ensures within { All (λ z. z ≤ self.now.greatest_window) result.now }
         ensures small { All (λ (z : ℕ). z < 2 ^ 87) result.now }
-        ensures few { length result.now ≤ most_segments }
+        ensures few { length result.now ≤ MOST_SEGMENTS }
     {
         self.windows.as_slice()
     }
@@ -109,7 +108,7 @@ impl TrackTally {
     /// The energy of its greatest block, 0 where it has none.
     pub(crate) fn greatest_block(&self) -> u128
         ensures value { result ≡ self.now.greatest_block }
-        ensures within { result ≤ 4 * greatest_energy }
+        ensures within { result ≤ BLOCK_SEGMENTS * GREATEST_ENERGY }
     {
         self.greatest_block
     }
@@ -117,7 +116,7 @@ impl TrackTally {
     /// The energy of its greatest window, 0 where it has none.
     pub(crate) fn greatest_window(&self) -> u128
         ensures value { result ≡ self.now.greatest_window }
-        ensures within { result ≤ 30 * greatest_energy }
+        ensures within { result ≤ WINDOW_SEGMENTS * GREATEST_ENERGY }
     {
         self.greatest_window
     }

@@ -2,7 +2,9 @@
 ghost use Rattle.std.specs.Prelude.{◌≡◌, ◌<◌};
 
 use crate::{Album, TrackTally};
-use lib_base::{Energies, Measured, Steps, Summary};
+use lib_base::{
+    Energies, GREATEST_ENERGY, MOST_SEGMENTS, Measured, SEGMENT_FRAMES, Steps, Summary,
+};
 use std::alloc::Global;
 use std::marker::{Brand, Sync};
 use std::process::Abort;
@@ -12,9 +14,6 @@ use std::thread::Threads;
 
 /// The square of full scale.
 const FULL: u128 = 1 << 54;
-
-/// The greatest energy of a segment.
-const GREATEST: u128 = (1 << 60) * 4_800 * 582;
 
 /// What an album without recordings answers.
 const SILENT: Summary = Summary {
@@ -34,12 +33,12 @@ fn tally_of<R: Abort + Threads + Sync>(
     alloc: Global,
     segments: &[u128],
 ) -> Result<TrackTally, Fail> {
-    assert!(rt; segments.len() <= 27_962);
-    assert!(rt; segments.iter().all(|energy| *energy <= GREATEST));
+    assert!(rt; segments.len() <= MOST_SEGMENTS);
+    assert!(rt; segments.iter().all(|energy| *energy <= GREATEST_ENERGY));
     let measured = Measured {
         channels: 1,
         depth: 16,
-        frames: 4_800 * segments.len() as u64,
+        frames: (SEGMENT_FRAMES * segments.len()) as u64,
         energies: Energies::of(Vec::from_slice(alloc, segments)?),
         peak: 1 << 36,
     };

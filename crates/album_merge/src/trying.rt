@@ -1,8 +1,8 @@
 //! What an album would answer after a change: the change is made, summed, and undone.
 ghost use Rattle.std.specs.Prelude.{◌≡◌, ◌≤◌, ◌<◌, ℕ, List, Contains, length};
 ghost use Rattle.lib_base.specs.declared.files.Measured.{Measured};
+ghost use Rattle.lib_base.specs.declared.limits.TheConstants.{MOST_MEMBERS};
 ghost use Rattle.sound_model.specs.Albums.{IsAlbumSummary};
-ghost use Rattle.album_merge.specs.Bounds.{most_recordings};
 ghost use Rattle.album_merge.specs.Tallies.{StandsForMeasured};
 
 use crate::{Album, TrackTally};
@@ -22,7 +22,7 @@ impl Album {
     ) -> (Summary, TrackTally)
         requires spare { 0 < self.old.spare }
         requires fresh { ¬ Contains (ids_of self.old) id }
-        requires few { length (ids_of self.old) < most_recordings }
+        requires few { length (ids_of self.old) < MOST_MEMBERS }
         ensures summary { (recordings : List (ℕ × Measured)) (measured : Measured) → IsAlbumOf self.old recordings
             → StandsForMeasured tally measured → IsAlbumSummary (measured_of (with_recording id measured recordings)) result.0 }
         ensures tally { (measured : Measured) → StandsForMeasured tally measured → StandsForMeasured result.1 measured }
@@ -87,7 +87,7 @@ impl Album {
     ) -> (Summary, TrackTally)
         requires spare { 0 < self.old.spare }
         requires fresh { ¬ Contains (ids_of self.old) id }
-        requires few { length (ids_of self.old) < most_recordings }
+        requires few { length (ids_of self.old) < MOST_MEMBERS }
         ensures summary { (recordings : List (ℕ × Measured)) (measured : Measured) → IsAlbumOf self.old recordings
             → StandsForMeasured tally measured → IsAlbumSummary (measured_of (with_recording id measured recordings)) result.0 }
         ensures tally { (measured : Measured) → StandsForMeasured tally measured → StandsForMeasured result.1 measured }

@@ -3,12 +3,11 @@
 ghost use Rattle.http_asking.specs.Asked.{HasHeading};
 
 use anyhow::{Result, bail};
-use http_asking::{Asking, ask_for, refuse, wanted};
+use http_asking::{Asking, Wanted, ask_for, wanted};
 use http_inbox::{HeadRead, Heading, Inbox};
-use http_model::{AskingRefusal, Command, Question, Wanted};
 use http_routes::{Paths, Route};
 use lib_base::{Bytes, MemSource, Memory};
-use library_model::Reply;
+use library_model::{Command, Question, Reply};
 use percent_encoding::percent_decode;
 use std::alloc::Global;
 
@@ -67,8 +66,8 @@ fn told(
 ) -> Result<String>
     requires { HasHeading bytes.now heading.now }
 {
-    match ask_for(paths, bytes, heading, body.as_slice()) {
-        Asking::Refused { cause, allows } => refused(alloc, cause, allows),
+    match given(ask_for(alloc, paths, bytes, heading, body.as_slice()))? {
+        Asking::Refused { reply, allows } => refused(alloc, &reply, allows),
         Asking::Question(Question::Recording(id)) => Ok(format!(in alloc; "recording {id}?")?),
         Asking::Question(Question::Album(id)) => Ok(format!(in alloc; "album {id}?")?),
         Asking::Change {
@@ -77,7 +76,7 @@ fn told(
             resource,
         } => {
             let wanted = given(wanted(alloc, resource, bytes, heading, body))?;
-            let mark = hex::encode(alloc, mark)?;
+            let (token, mark) = (token.as_str(), hex::encode(alloc, mark)?);
             let change = change(alloc, &wanted)?;
             Ok(format!(in alloc; "{token} {mark} {change}")?)
         }
@@ -85,8 +84,8 @@ fn told(
 }
 
 /// A refusal, with the methods that it allows.
-fn refused(alloc: Global, cause: AskingRefusal, allows: Option<Route>) -> Result<String> {
-    let reply = reply(alloc, &given(refuse(alloc, cause))?)?;
+fn refused(alloc: Global, refusal: &Reply, allows: Option<Route>) -> Result<String> {
+    let reply = reply(alloc, refusal)?;
     match allows {
         Some(route) => {
             let methods = route.allowed();
@@ -131,8 +130,10 @@ fn commanded(alloc: Global, command: &Command) -> Result<String> {
             let album = album_of(alloc, *album)?;
             Ok(format!(in alloc; "regroup {recording} into {album}")?)
         }
-        Command::RemoveRecording(id) => Ok(format!(in alloc; "remove recording {id}")?),
-        Command::RemoveAlbum(id) => Ok(format!(in alloc; "remove album {id}")?),
+        Command::RemoveRecording { recording: id } => Ok(format!(in alloc;
+            "remove recording {id}"
+        )?),
+        Command::RemoveAlbum { album: id } => Ok(format!(in alloc; "remove album {id}")?),
     }
 }
 

@@ -5,7 +5,7 @@
 #![tactic(auto)]
 
 ghost use Rattle.std.specs.Prelude.{◌≡◌, ◌≤◌, ◌<◌, length, IfOk, All};
-ghost use Rattle.sound_model.specs.Segments.{greatest_energy};
+ghost use Rattle.lib_base.specs.declared.limits.TheConstants.{GREATEST_ENERGY};
 
 use album_merge::{Album, TrackTally};
 use anyhow::{Result, bail};
@@ -65,7 +65,7 @@ fn album_of<R: Threads + Sync>(rt: &R, alloc: Global) -> Result<Album, Memory> {
 fn energies_of(alloc: Global, state: &mut u32, fading: u32) -> Result<Energies, Memory>
     requires { fading < 16 }
     ensures count { IfOk result (λ energies. length energies ≡ 60) }
-    ensures within { IfOk result (λ energies. All (λ e. e ≤ greatest_energy) energies) }
+    ensures within { IfOk result (λ energies. All (λ e. e ≤ GREATEST_ENERGY) energies) }
 {
     let mut energies = Vec::new(alloc);
     for segment in 0..SEGMENTS {
@@ -77,7 +77,7 @@ fn energies_of(alloc: Global, state: &mut u32, fading: u32) -> Result<Energies, 
 
 fn energy_of(state: u32, fading: u32) -> u128
     requires { fading < 16 }
-    ensures { result ≤ greatest_energy }
+    ensures { result ≤ GREATEST_ENERGY }
 {
     (u128::from(state >> 16) << 57) >> fading
 }

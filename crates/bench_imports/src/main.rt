@@ -1,10 +1,11 @@
-//! Imports a wave of one segment over and over into a library in memory, for `bench/imports.sh` to
-//! time what an import costs outside measuring.
+//! Changes a library in memory over and over, for `bench/imports.sh` to time what its requests cost.
 //!
-//! The words are the work and how many times to do it: `measure` measures the wave alone, `import`
-//! imports it as ever new recordings, `ask` imports them and then asks for each one ten times. It
-//! prints how many segments were measured, how many imports were accepted, or how many recordings
-//! were found.
+//! The words are the work and how many times to do it. Of a wave of one segment, `measure` measures it
+//! alone, `import` imports it as ever new recordings, and `ask` imports them and then asks for each one
+//! ten times. `albums` adds albums, and `tokens` adds them and then looks for each token ten times.
+//! `regroup` moves a recording to and fro between two albums of 200 recordings with 60 segments each.
+//! It prints how many segments were measured, how many changes were accepted, how many recordings were
+//! found, or how many tokens were kept.
 #![tactic(auto)]
 
 ghost use Rattle.std.specs.Prelude.{◌≡◌, ◌<◌};
@@ -22,10 +23,16 @@ use std::marker::{Brand, Sync};
 use std::sync::ledger::{Blank, Ledger};
 use std::thread::Threads;
 use wave_chunks::WaveSound;
-use waves::segment_of_noise;
+use waves::noise;
 
-/// How often each recording is asked for.
+/// How often each recording is asked for, and each token is looked for.
 const ROUNDS: u32 = 10;
+
+/// How many recordings each of two albums has.
+const MEMBERS: u32 = 200;
+
+/// How many segments each of them has.
+const SEGMENTS: u32 = 60;
 
 fn main(rt: HostRuntime) -> Result<()> {
     let alloc = rt.alloc();
@@ -34,12 +41,14 @@ fn main(rt: HostRuntime) -> Result<()> {
         bail!("usage: bench_imports WORK TIMES");
     };
     let times: u32 = times.as_str().parse()?;
-    let file = segment_of_noise(alloc)?;
-    let done = if work.as_str() == "measure" {
-        measures(&rt, alloc, file.as_slice(), times)
-    } else {
-        let rounds = rounds_of(work.as_str());
-        imports::<HostRuntime, Brand>(&rt, alloc, file.as_slice(), times, rounds, Blank::new(1))
+    let rounds = rounds_of(work.as_str());
+    let done = match work.as_str() {
+        "measure" => measures(&rt, alloc, times),
+        "albums" | "tokens" => {
+            albums::<HostRuntime, Brand>(&rt, alloc, times, rounds, Blank::new(1))
+        }
+        "regroup" => regroups::<HostRuntime, Brand>(&rt, alloc, times, Blank::new(1)),
+        _ => imports::<HostRuntime, Brand>(&rt, alloc, times, rounds, Blank::new(1)),
     };
     let Ok(done) = done else {
         bail!("want of memory");
@@ -48,22 +57,22 @@ fn main(rt: HostRuntime) -> Result<()> {
     Ok(())
 }
 
-/// In how many rounds the recordings are asked for.
+/// In how many rounds the recordings are asked for, or the tokens are looked for.
 fn rounds_of(work: &str) -> u32 {
-    if work == "ask" { ROUNDS } else { 0 }
+    if work == "ask" || work == "tokens" {
+        ROUNDS
+    } else {
+        0
+    }
 }
 
 /// Measures the wave so many times, by one worker: how many segments that were.
-fn measures<R: Threads + Sync>(
-    rt: &R,
-    alloc: Global,
-    file: &[u8],
-    times: u32,
-) -> Result<u64, Memory> {
-    let Ok(wave) = wave_chunks::read(alloc, file) else {
+fn measures<R: Threads + Sync>(rt: &R, alloc: Global, times: u32) -> Result<u64, Memory> {
+    let file = noise(alloc, 1)?;
+    let Ok(wave) = wave_chunks::read(alloc, file.as_slice()) else {
         return Ok(0);
     };
-    let sound = WaveSound::over(file, &wave);
+    let sound = WaveSound::over(file.as_slice(), &wave);
     let mut segments = 0u64;
     for _ in 0..times {
         let found = measure(rt, alloc, &sound, 1, &OpenGate)?;
@@ -77,7 +86,34 @@ fn measures<R: Threads + Sync>(
 fn imports<R: Threads + Sync, L: Ledger>(
     rt: &R,
     alloc: Global,
-    file: &[u8],
+    times: u32,
+    rounds: u32,
+    blank: Blank,
+) -> Result<u64, Memory>
+    requires name { blank.name ≡ L.name }
+    requires parts { blank.parts ≡ L.parts }
+    requires some { 0 < blank.parts }
+{
+    let mut steps: Steps<L> = Steps::new(blank);
+    let file = noise(alloc, 1)?;
+    let mut opened = Opened::new(rt, alloc)?;
+    let mut accepted = 0u64;
+    for number in 0..times {
+        if opened.import(rt, alloc, None, file.as_slice(), number, &mut steps)? {
+            accepted = accepted.wrapping_add(1);
+        }
+    }
+    if rounds == 0 {
+        return Ok(accepted);
+    }
+    opened.ask_for_all(times, rounds)
+}
+
+/// Adds so many albums to an empty library: how many were accepted. Where there are rounds, each token
+/// is looked for in each of them: how often one was kept.
+fn albums<R: Threads + Sync, L: Ledger>(
+    rt: &R,
+    alloc: Global,
     times: u32,
     rounds: u32,
     blank: Blank,
@@ -88,14 +124,59 @@ fn imports<R: Threads + Sync, L: Ledger>(
 {
     let mut steps: Steps<L> = Steps::new(blank);
     let mut opened = Opened::new(rt, alloc)?;
+    let mut counted = 0u64;
+    for number in 0..times {
+        if opened.add_album(rt, alloc, number, &mut steps)? {
+            counted = counted.wrapping_add(1);
+        }
+    }
+    if rounds > 0 {
+        counted = 0;
+    }
+    for _ in 0..rounds {
+        counted = counted.wrapping_add(opened.count_kept(alloc, times)?);
+    }
+    Ok(counted)
+}
+
+/// Moves the first recording so many times between two full albums: how many moves were accepted.
+fn regroups<R: Threads + Sync, L: Ledger>(
+    rt: &R,
+    alloc: Global,
+    times: u32,
+    blank: Blank,
+) -> Result<u64, Memory>
+    requires name { blank.name ≡ L.name }
+    requires parts { blank.parts ≡ L.parts }
+    requires some { 0 < blank.parts }
+{
+    let mut steps: Steps<L> = Steps::new(blank);
+    let mut opened = Opened::new(rt, alloc)?;
+    fill_albums(rt, alloc, &mut opened, &mut steps)?;
     let mut accepted = 0u64;
-    for _ in 0..times {
-        if opened.import(rt, alloc, file, &mut steps)? {
+    for turn in 0..times {
+        let number = turn.wrapping_add(2 + 2 * MEMBERS);
+        if opened.regroup(rt, alloc, 1, 2 - turn % 2, number, &mut steps)? {
             accepted = accepted.wrapping_add(1);
         }
     }
-    if rounds == 0 {
-        return Ok(accepted);
+    Ok(accepted)
+}
+
+/// Adds two albums, and imports recordings into both, under the first tokens.
+fn fill_albums<R: Threads + Sync, L: Ledger>(
+    rt: &R,
+    alloc: Global,
+    opened: &mut Opened,
+    steps: &mut Steps<L>,
+) -> Result<(), Memory> {
+    let file = noise(alloc, SEGMENTS)?;
+    for number in 0..2 {
+        let _ = opened.add_album(rt, alloc, number, steps)?;
     }
-    opened.ask_for_all(times, rounds)
+    for number in 0..2 * MEMBERS {
+        let album = Some(1 + number / MEMBERS);
+        let _ = opened.import(rt, alloc, album, file.as_slice(), number + 2, steps)?;
+    }
+    Ok(())
 }

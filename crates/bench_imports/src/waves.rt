@@ -1,13 +1,13 @@
-//! A wave of noise.
+//! Waves of noise.
 use std::alloc::{AllocError, Global};
 
 /// How many frames a segment has.
 const SEGMENT: u32 = 4_800;
 
-/// A wave file of one segment, of one channel of 16 bits, by the linear congruential generator of
-/// Numerical Recipes.
-pub fn segment_of_noise(alloc: Global) -> Result<Vec<u8>, AllocError> {
-    let data = SEGMENT * 2;
+/// A wave file of so many segments, 60 at most, of one channel of 16 bits, by the linear congruential
+/// generator of Numerical Recipes.
+pub fn noise(alloc: Global, segments: u32) -> Result<Vec<u8>, AllocError> {
+    let data = SEGMENT * 2 * segments.min(60);
     let mut bytes = Vec::new(alloc);
     bytes.extend_from_slice(b"RIFF")?;
     bytes.extend_from_slice(&(36 + data).to_le_bytes())?;

@@ -32,6 +32,7 @@ over_loaded old new tables (Ok library) loads opens = record {
   loaded = of_loaded (λ t. t ≡ tables) old new tables loads refl;
   unbroken = opens.0;
   holds = opens.1;
+  released = opens.2;
 }
 over_loaded old new tables (Err (refusal.BadRow bad)) loads opens = of_loaded (λ t. IsFirstBad t (Some bad)) old new tables loads opens
 over_loaded old new tables (Err refusal.KeeperFault) loads opens = absurd opens

@@ -1,8 +1,9 @@
 -- What committing a prepared change answers.
-use Rattle.std.specs.Prelude.{◌≡◌, ◌≤◌, ◌⊎◌, ℕ, List, length}
+use Rattle.std.specs.Prelude.{◌≡◌, ◌≤◌, ◌⊎◌, None}
+use Rattle.catalogue_rows.specs.Making.{FitsAll}
+use Rattle.catalogue_rows.specs.Room.{HasRoomFor}
 use Rattle.lib_base.specs.Faults.{Rose}
 use Rattle.keeper_store.specs.declared.contents.Tables.{Tables}
-use Rattle.keeper_store.specs.declared.contents.Change.{Change}
 use Rattle.keeper_store.specs.Changes.{changed_all}
 use Rattle.keeper_store.specs.Goes.{Goes, RoseByOne}
 use Rattle.keeper_store.specs.Keepers.{KeeperView}
@@ -11,26 +12,32 @@ use Rattle.library_model.specs.declared.refusals.Refusal.TheVariants.{Keeper, Me
 use Rattle.library_model.specs.Replies.{refusal}
 use Rattle.catalogue_core.specs.declared.libraries.Library.{Library}
 use Rattle.catalogue_core.specs.declared.prepared.Prepared.{Prepared}
-use Rattle.catalogue_core.specs.Kept.{Holds, HasRoom}
+use Rattle.catalogue_core.specs.Kept.{Holds, HoldsAgain, released_of}
 
--- the library holds what it held
-abbrev pub HoldsAgain : Library → Library → Type 0
-HoldsAgain old new = (t : Tables) → Holds old t → Holds new t
+-- the library has the room that the change needs
+abbrev pub Fits : Library → Prepared → Type 0
+Fits library p = HasRoomFor library.rows p.fresh p.batch.changes
 
--- the library holds what changes make of what it held
-abbrev pub HoldsChanged : List Change → Library → Library → Type 0
-HoldsChanged changes old new = (t : Tables) → Holds old t → Holds new (changed_all changes t)
+-- the change can be made of what stands in these tables
+abbrev pub FitsTables : Prepared → Tables → Type 0
+FitsTables p t = FitsAll p.batch.changes p.fresh t
 
--- The change was made, with its reply.
+-- the library holds what the change makes of what it held, where the change can be made of it
+abbrev pub HoldsChanged : Prepared → Library → Library → Type 0
+HoldsChanged p old new = (t : Tables) → Holds old t → FitsTables p t → Holds new (changed_all p.batch.changes t)
+
+-- The change was made, with its reply, and the take that it takes out is released.
 pub record IsMade (p : Prepared) (library committed : Library) (old new : KeeperView) (reply : Reply) : Type 0 where
   pub reply_is : reply ≡ p.reply
-  pub holds : HoldsChanged p.batch.changes library committed
+  pub holds : HoldsChanged p library committed
   pub tables : Goes (λ t u. u ≡ changed_all p.batch.changes t) old.tables new.tables
+  pub released : released_of committed ≡ p.released
 
--- Nothing was changed.
+-- Nothing was changed, and no take is released.
 pub record IsLeft (library committed : Library) (old new : KeeperView) : Type 0 where
   pub holds : HoldsAgain library committed
   pub tables : Goes (λ t u. u ≡ t) old.tables new.tables
+  pub released : released_of committed ≡ None
 
 -- The change was made, with its reply; or the keeper's count rose, or memory was wanting with no fault counted, and nothing
 -- was changed.
@@ -46,7 +53,3 @@ pub record Commits (p : Prepared) (library committed : Library) (old new : Keepe
   pub settles : Settles p library committed old new reply
   pub later : old.faults ≤ new.faults
   pub applies : RoseByOne old.applies new.applies
-
--- the library has the room that the change needs
-abbrev pub Fits : Library → Prepared → Type 0
-Fits library p = HasRoom library (length p.batch.changes)

@@ -1,45 +1,36 @@
--- What an import changes in the tables.
-use Rattle.std.specs.Prelude.{◌≡◌, ◌+◌, ◌⊎◌, ◌||◌, ℕ, Bool, true, false, nat_le, List, [], ◌∷◌, None}
-use Rattle.md5.specs.Md5.{md5}
+-- What comes with a file that is accepted.
+use Rattle.std.specs.Prelude.{◌≡◌, ◌==◌, ℕ, true, List, Option, None, Some}
+use Rattle.std.specs.List.{find}
+use Rattle.album_merge.specs.Tallies.{Tallied}
+use Rattle.file_model.specs.Files.{Reads}
+use Rattle.file_model.specs.Pcm.{Pcm}
+use Rattle.file_model.specs.Reading.{accepted}
 use Rattle.lib_base.specs.declared.files.Measured.{Measured}
-use Rattle.lib_base.specs.declared.files.Summary.{Summary}
-use Rattle.lib_base.specs.Faults.{Rose}
-use Rattle.keeper_store.specs.declared.contents.NextNumbers.{NextNumbers}
-use Rattle.keeper_store.specs.declared.contents.Change.{Change}
-use Rattle.keeper_store.specs.declared.contents.Change.TheVariants.{Counters, PutRecording, PutSegments}
 use Rattle.keeper_store.specs.declared.row_types.RecordingRow.{RecordingRow}
-use Rattle.keeper_store.specs.declared.row_types.SegmentRow.{SegmentRow}
-use Rattle.library_model.specs.declared.refusals.Refusal.TheVariants.{Ids, Vault}
-use Rattle.library_model.specs.Bodies.{row_reply}
-use Rattle.library_model.specs.Findings.{kind_of}
-use Rattle.library_model.specs.Replies.{refusal}
-use Rattle.library_model.specs.Stands.{row_of, segments_of}
-use Rattle.library_model.specs.State.{numbers_end}
-use Rattle.catalogue_core.specs.declared.prepared.Prepared.{Prepared}
-use Rattle.catalogue_core.specs.declared.prepared.Staged.{Staged}
-use Rattle.catalogue_core.specs.declared.prepared.Staged.TheVariants.{Refused, Ready}
+use Rattle.library_model.specs.Machine.{kept_under}
+use Rattle.library_model.specs.Names.{is_name}
+use Rattle.library_model.specs.RowRules.{album_is_there}
+use Rattle.library_model.specs.Stands.{IsValid, IsWithinLimit, tables_of}
+use Rattle.library_model.specs.State.{State}
+use Rattle.catalogue_core.specs.Examining.{IsMeasuredOf}
 
--- the row of an imported file of which that is measured, with its levels, under the next numbers: in no album, with no name
-abbrev pub import_row : NextNumbers → List ℕ → Measured → Summary → RecordingRow
-import_row next file m summary = row_of next.recording None [] next.take (kind_of file) (md5 file) m summary
+-- The file is within the body limit and accepted, as a sound of which that is measured.
+pub record IsTake (file : List ℕ) (m : Measured) (tally : Tallied) : Type 0 where
+  pub within : IsWithinLimit file
+  pub sound : Pcm
+  pub reads : Reads file (accepted sound)
+  pub measured : IsMeasuredOf sound m tally
 
--- the counters rise, and both rows are put
-abbrev pub import_changes : NextNumbers → RecordingRow → SegmentRow → List Change
-import_changes next row segments =
-    Counters next.album (next.recording + 1) (next.take + 1) ∷ PutRecording row ∷ PutSegments segments ∷ []
+-- In s, a valid state, the token is fresh.
+pub record IsOpenTo (s : State) (token : List ℕ) : Type 0 where
+  pub valid : IsValid s
+  pub fresh : kept_under token s.replies ≡ None
 
--- The prepared change is the import of a file of which that is measured, under the next numbers.
-pub record PreparesImport (next : NextNumbers) (file : List ℕ) (m : Measured) (summary : Summary) (p : Prepared) : Type 0 where
-  pub changes : p.batch.changes ≡ import_changes next (import_row next file m summary) (segments_of next.take m)
-  pub reply : p.reply ≡ row_reply 201 (import_row next file m summary)
+-- The name has its form, and the album that is named is there.
+pub record IsHome (s : State) (album : Option ℕ) (name : List ℕ) : Type 0 where
+  pub named : is_name name ≡ true
+  pub there : album_is_there album (tables_of s).albums ≡ true
 
--- no number is left for the next recording, or none for its take
-abbrev pub lacks_numbers : NextNumbers → Bool
-lacks_numbers next = nat_le numbers_end next.recording || nat_le numbers_end next.take
-
--- what staging the import of an accepted file answers: `ids`, a fault of the vault, or the prepared import
-abbrev pub StagesAccepted : NextNumbers → List ℕ → Measured → Summary → ℕ → ℕ → Staged → Type 0
-StagesAccepted next file m summary before now (Refused reply) =
-    ((lacks_numbers next ≡ true) × (reply ≡ refusal Ids))
-    ⊎ ((lacks_numbers next ≡ false) × (reply ≡ refusal Vault) × Rose before now)
-StagesAccepted next file m summary before now (Ready p) = (lacks_numbers next ≡ false) × PreparesImport next file m summary p
+-- the recording of an id has this row
+abbrev pub HasRow : State → ℕ → RecordingRow → Type 0
+HasRow s id row = find (λ (r : RecordingRow). r.id == id) (tables_of s).recordings ≡ Some row

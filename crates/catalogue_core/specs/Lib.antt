@@ -4,5 +4,13 @@ pub mod Committing
 pub mod Examining
 pub mod Imports
 pub mod Kept
+pub mod Looking
+pub mod Moving
 pub mod Opening
+pub mod Plans
+pub mod Requests
+pub mod Resumming
+pub mod Seeing
+pub mod Settling
 pub mod Staging
+pub mod Sweeping

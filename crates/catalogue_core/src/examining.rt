@@ -4,15 +4,13 @@ ghost use Rattle.file_model.specs.Files.{Reads};
 ghost use Rattle.file_model.specs.Pcm.{Pcm};
 ghost use Rattle.file_model.specs.Reading.{accepted as reads_as};
 ghost use Rattle.measure_pool.specs.declared.plans.TheConstants.{MOST_WORKERS};
-ghost use Rattle.sound_model.specs.Blocks.{blocks_of, windows_of};
-ghost use Rattle.sound_model.specs.Summaries.{Summarises};
 ghost use Rattle.tag_writer.specs.Answers.{IsAcceptedOf};
-ghost use Rattle.catalogue_core.specs.Examining.{IsFound, IsSummable};
 ghost use Rattle.library_model.specs.Findings.{measured_of};
+ghost use Rattle.library_model.specs.Stands.{IsWithinLimit};
+ghost use Rattle.catalogue_core.specs.Examining.{IsExamined};
 
-use album_merge::summarise;
-use gate_blocks::{blocks, windows};
-use lib_base::{Broken, Measured, Memory, Refused, Summary};
+use album_merge::TrackTally;
+use lib_base::{Broken, Measured, Memory, Refused};
 use measure_pool::{Gate, measure};
 use std::alloc::Global;
 use std::thread::Threads;
@@ -21,13 +19,14 @@ use tag_writer::{Accepted, AnySound, accept};
 /// What a file is found to be.
 #[derive(Debug, Drop)]
 pub enum Examined {
-    /// A file that the library accepts: what is measured of its sound, and the levels of that.
-    Accepted(Measured, Summary),
+    /// A file that the library accepts: what is measured of its sound, and the tally of that.
+    Accepted(Measured, TrackTally),
     /// A file that breaks a rule.
     Broken(Broken),
 }
 
-/// What a file is, and what so many workers measure of it where it is accepted.
+/// What a file within the body limit is, and what so many workers measure of it where it is
+/// accepted.
 pub fn examine<R: Threads + Sync, G: Gate>(
     rt: &R,
     alloc: Global,
@@ -37,13 +36,14 @@ pub fn examine<R: Threads + Sync, G: Gate>(
 ) -> Result<Examined, Memory>
     requires some { 1 ≤ workers }
     requires most { workers ≤ MOST_WORKERS }
-    ensures { IfOk result (λ found. IsFound file.now found) }
+    requires within { IsWithinLimit file.now }
+    ensures { IfOk result (λ found. IsExamined file.now found) }
 {
     match accept(alloc, file) {
         Ok(accepted) => {
             let measured = measure_file(rt, alloc, file, &accepted, workers, gate)?;
-            let summary = summary_of(alloc, &measured)?;
-            Ok(Examined::Accepted(measured, summary))
+            let tally = TrackTally::make(rt, alloc, &measured)?;
+            Ok(Examined::Accepted(measured, tally))
         }
         Err(Refused::Broken(fault)) => Ok(Examined::Broken(fault)),
         Err(Refused::Memory) => Err(Memory),
@@ -67,21 +67,4 @@ fn measure_file<R: Threads + Sync, G: Gate>(
         → measured ≡ measured_of sound) }
 {
     measure(rt, alloc, &AnySound::over(file, accepted), workers, gate)
-}
-
-/// The levels of what is measured of a sound.
-fn summary_of(alloc: Global, measured: &Measured) -> Result<Summary, Memory>
-    requires { IsSummable measured.now }
-    ensures { IfOk result (Summarises measured.now.frames (blocks_of measured.now.energies)
-        (windows_of measured.now.energies) measured.now.peak) }
-{
-    let blocks = blocks(alloc, measured.energies.as_slice())?;
-    let windows = windows(alloc, measured.energies.as_slice())?;
-    summarise(
-        alloc,
-        measured.frames,
-        blocks.as_slice(),
-        windows.as_slice(),
-        measured.peak,
-    )
 }

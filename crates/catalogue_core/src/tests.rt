@@ -1,11 +1,16 @@
 //! The library over a keeper and a vault in memory.
-ghost use Rattle.std.specs.Prelude.{◌≡◌, ◌≤◌, ◌<◌};
+ghost use Rattle.std.specs.Prelude.{◌≡◌, ◌≤◌, ◌<◌, IfNone, IfOk, IfSome};
+ghost use Rattle.kept_replies.specs.Tokens.{text_of};
+ghost use Rattle.library_model.specs.Stands.{BringsWithin, IsWithinLimit};
 ghost use Rattle.measure_pool.specs.declared.plans.TheConstants.{MOST_WORKERS};
+ghost use Rattle.catalogue_core.specs.Kept.{IsFresh};
 
-use crate::{Library, OpenRefusal, Staged, ask, commit, stage};
+use crate::{Library, OpenRefusal, Request, Seen, Staged, Token, ask, commit, stage, sweep};
+use json_bodies::{is_name, refuse};
 use keeper_store::{MemKeeper, MemVault, Tables};
-use lib_base::{Bytes, Memory, Steps};
-use library_model::{BadRow, Command, Question, Reply, Request, RowRule, RowTable};
+use lib_base::{Bytes, Memory, Steps, Text};
+use library_model::limits::MOST_BODY_BYTES;
+use library_model::{BadRow, Command, Question, Refusal, Reply, RowRule, RowTable};
 use measure_pool::{Gate, OpenGate};
 use std::alloc::Global;
 use std::marker::Brand;
@@ -40,31 +45,125 @@ fn open<R: Threads + Sync>(
     })
 }
 
-/// Asks for the import of a file, which so many workers measure.
-fn import<R: Threads + Sync, G: Gate>(
-    rt: &R,
-    objects: &mut Objects,
-    file: &[u8],
-    workers: u32,
-    gate: &G,
-) -> Result<Reply, Memory>
-    requires some { 1 ≤ workers }
-    requires most { workers ≤ MOST_WORKERS }
-{
-    import_by::<R, G, Brand>(rt, objects, file, workers, gate, Blank::new(1))
+/// What is asked.
+#[derive(Clone, Copy, Debug)]
+enum Asks {
+    NewAlbum(&'static str),
+    Import(Option<u32>, &'static [u8]),
+    Retake(u32, &'static [u8]),
+    Regroup(u32, Option<u32>),
+    Remove(u32),
+    RemoveAlbum(u32),
+    Recording(u32),
+    Album(u32),
 }
 
-/// The same, with its steps counted in the blank's ledger.
-fn import_by<R: Threads + Sync, G: Gate, L: Ledger>(
+/// What is asked as a command, where it is one and has its form.
+fn command_of(alloc: Global, asks: Asks) -> Result<Option<Command>, Memory>
+    ensures { IfOk result (λ command. IfSome command BringsWithin) }
+{
+    match asks {
+        Asks::NewAlbum(name) => new_album(alloc, name),
+        Asks::Import(album, file) => import(alloc, album, file),
+        Asks::Retake(recording, file) => retake(alloc, recording, file),
+        Asks::Regroup(recording, album) => Ok(Some(Command::Regroup { recording, album })),
+        Asks::Remove(recording) => Ok(Some(Command::RemoveRecording { recording })),
+        Asks::RemoveAlbum(album) => Ok(Some(Command::RemoveAlbum { album })),
+        Asks::Recording(_) => Ok(None),
+        Asks::Album(_) => Ok(None),
+    }
+}
+
+fn new_album(alloc: Global, name: &str) -> Result<Option<Command>, Memory>
+    ensures { IfOk result (λ command. IfSome command BringsWithin) }
+{
+    if !is_name(name.as_bytes()) {
+        return Ok(None);
+    }
+    let name = Text::of(String::from_str(alloc, name)?);
+    Ok(Some(Command::NewAlbum { name }))
+}
+
+fn import(alloc: Global, album: Option<u32>, file: &[u8]) -> Result<Option<Command>, Memory>
+    ensures { IfOk result (λ command. IfSome command BringsWithin) }
+{
+    if !is_name(b"".as_slice()) || file.len() as u64 > MOST_BODY_BYTES {
+        return Ok(None);
+    }
+    let name = Text::of(String::from_str(alloc, "")?);
+    let bytes = Bytes::copy(alloc, file)?;
+    Ok(Some(Command::Import { album, name, bytes }))
+}
+
+fn retake(alloc: Global, recording: u32, file: &[u8]) -> Result<Option<Command>, Memory>
+    ensures { IfOk result (λ command. IfSome command BringsWithin) }
+{
+    if file.len() as u64 > MOST_BODY_BYTES {
+        return Ok(None);
+    }
+    let bytes = Bytes::copy(alloc, file)?;
+    Ok(Some(Command::Retake { recording, bytes }))
+}
+
+/// What is replied to a question, and None to a command.
+fn reply_to_question(objects: &mut Objects, asks: Asks) -> Result<Option<Reply>, Memory> {
+    let question = match asks {
+        Asks::Recording(id) => Question::Recording(id),
+        Asks::Album(id) => Question::Album(id),
+        _ => return Ok(None),
+    };
+    Ok(Some(ask(&objects.library, &question, &mut objects.vault)?))
+}
+
+/// What was replied to a token before, or the refusal of one that is another request's; None where it
+/// is fresh.
+fn before(library: &Library, token: &Token, mark: &[u8; 16]) -> Result<Option<Reply>, Memory>
+    ensures { IfOk result (λ reply. IfNone reply (IsFresh library.now (text_of token.now))) }
+{
+    match library.seen(token, mark) {
+        Seen::Fresh => Ok(None),
+        Seen::Kept(kept) => Ok(Some(Reply {
+            status: kept.status,
+            kind: kept.kind,
+            body: Bytes::copy(library.alloc, kept.body.as_slice())?,
+        })),
+        Seen::Other => Ok(Some(refuse(library.alloc, Refusal::TokenUsed)?)),
+    }
+}
+
+/// What is replied to a command under a token, with a mark of sixteen such bytes.
+fn reply_to<R: Threads + Sync, G: Gate>(
     rt: &R,
     objects: &mut Objects,
-    file: &[u8],
-    workers: u32,
+    token: Token,
+    mark: u8,
+    command: Command,
+    gate: &G,
+) -> Result<Reply, Memory>
+    requires { BringsWithin command }
+{
+    let mark = [mark; 16];
+    if let Some(reply) = before(&objects.library, &token, &mark)? {
+        return Ok(reply);
+    }
+    let request = Request {
+        token,
+        mark,
+        command,
+    };
+    make::<R, G, Brand>(rt, objects, request, gate, Blank::new(1))
+}
+
+/// Stages a request of a fresh token, commits it, and sweeps.
+fn make<R: Threads + Sync, G: Gate, L: Ledger>(
+    rt: &R,
+    objects: &mut Objects,
+    request: Request,
     gate: &G,
     blank: Blank,
 ) -> Result<Reply, Memory>
-    requires some { 1 ≤ workers }
-    requires most { workers ≤ MOST_WORKERS }
+    requires fresh { IsFresh objects.old.library (text_of request.token) }
+    requires within { BringsWithin request.command }
     requires name { blank.name ≡ L.name }
     requires parts { blank.parts ≡ L.parts }
     requires share { 0 < blank.parts }
@@ -74,15 +173,37 @@ fn import_by<R: Threads + Sync, G: Gate, L: Ledger>(
         keeper,
         vault,
     } = objects;
-    let bytes = Bytes::copy(library.alloc, file)?;
-    let request = Request {
-        command: Command::Import { bytes },
-    };
     let mut steps: Steps<L> = Steps::new(blank);
-    match stage(rt, library, request, vault, workers, gate, &mut steps)? {
+    match stage(rt, library, request, vault, 2, gate, &mut steps)? {
         Staged::Refused(reply) => Ok(reply),
-        Staged::Ready(ready) => Ok(commit(library, ready, keeper)),
+        Staged::Ready(ready) => {
+            let reply = commit(library, ready, keeper);
+            sweep(library, vault);
+            Ok(reply)
+        }
     }
+}
+
+/// What is replied to what is asked, of which each text has its form.
+fn answer<R: Threads + Sync, G: Gate>(
+    rt: &R,
+    objects: &mut Objects,
+    token: &str,
+    mark: u8,
+    asks: Asks,
+    gate: &G,
+) -> Result<Option<Reply>, Memory> {
+    if let Some(reply) = reply_to_question(objects, asks)? {
+        return Ok(Some(reply));
+    }
+    let alloc = objects.library.alloc;
+    let Some(token) = Token::of(alloc, token.as_bytes())? else {
+        return Ok(None);
+    };
+    let Some(command) = command_of(alloc, asks)? else {
+        return Ok(None);
+    };
+    Ok(Some(reply_to(rt, objects, token, mark, command, gate)?))
 }
 
 #[test]
@@ -124,13 +245,6 @@ const MISALIGNED: &[u8] =
 const CUT: &[u8] =
     b"RIFF\x26\0\0\0WAVEfmt \x10\0\0\0\x01\0\x01\0\x80\xbb\0\0\0\x77\x01\0\x02\0\x10\0data\x04\0\0\0\0\0";
 
-/// What is replied about the first recording of the four samples, and about the second.
-const FIRST: &str =
-    r#"{"channels":1,"depth":16,"frames":4,"gain":null,"id":1,"kind":"wave","loudness":null,"momentary":null,"peak":"0.537233","range":null,"short":null,"true_peak":-540}"#;
-
-const SECOND: &str =
-    r#"{"channels":1,"depth":16,"frames":4,"gain":null,"id":2,"kind":"wave","loudness":null,"momentary":null,"peak":"0.537233","range":null,"short":null,"true_peak":-540}"#;
-
 /// A FLAC file of one channel of 16 bits, and one frame of sixteen samples of 1.
 const FLAC: &[u8] =
     b"fLaC\x80\0\0\x22\0\x10\0\x10\0\0\0\0\0\0\x0b\xb8\0\xf0\0\0\0\x10\0\0\0\0\0\0\0\0\0\0\0\0\0\0\0\0\xff\xf8j\x08\0\x0f\x0a\0\0\x01\xbe\x85";
@@ -139,70 +253,161 @@ const FLAC: &[u8] =
 const SIXTEEN: &[u8] =
     b"RIFF\x44\0\0\0WAVEfmt \x10\0\0\0\x01\0\x01\0\x80\xbb\0\0\0\x77\x01\0\x02\0\x10\0data\x20\0\0\0\x01\0\x01\0\x01\0\x01\0\x01\0\x01\0\x01\0\x01\0\x01\0\x01\0\x01\0\x01\0\x01\0\x01\0\x01\0\x01\0";
 
-/// What is replied about that sound, third as FLAC and fourth as a wave.
-const THIRD: &str =
-    r#"{"channels":1,"depth":16,"frames":16,"gain":null,"id":3,"kind":"flac","loudness":null,"momentary":null,"peak":"0.000035","range":null,"short":null,"true_peak":-8936}"#;
+/// What is replied about the first recording, in no album.
+const FIRST: &str =
+    r#"{"album":null,"channels":1,"depth":16,"frames":4,"gain":null,"id":1,"kind":"wave","loudness":null,"momentary":null,"name":"","peak":"0.537233","range":null,"short":null,"take":1,"true_peak":-540}"#;
 
-const FOURTH: &str =
-    r#"{"channels":1,"depth":16,"frames":16,"gain":null,"id":4,"kind":"wave","loudness":null,"momentary":null,"peak":"0.000035","range":null,"short":null,"true_peak":-8936}"#;
+/// About it in the first album.
+const FIRST_IN_ONE: &str =
+    r#"{"album":1,"channels":1,"depth":16,"frames":4,"gain":null,"id":1,"kind":"wave","loudness":null,"momentary":null,"name":"","peak":"0.537233","range":null,"short":null,"take":1,"true_peak":-540}"#;
 
-const NO_KIND: &str = r#"{"error":"format","place":0,"rule":"K1"}"#;
+/// About it in the second album.
+const FIRST_IN_TWO: &str =
+    r#"{"album":2,"channels":1,"depth":16,"frames":4,"gain":null,"id":1,"kind":"wave","loudness":null,"momentary":null,"name":"","peak":"0.537233","range":null,"short":null,"take":1,"true_peak":-540}"#;
 
-/// What is asked.
-#[derive(Clone, Copy, Debug)]
-enum Asked {
-    Import(&'static [u8]),
-    Recording(u32),
-}
+/// About it with the sound of sixteen samples as its file.
+const FIRST_RETAKEN: &str =
+    r#"{"album":2,"channels":1,"depth":16,"frames":16,"gain":null,"id":1,"kind":"flac","loudness":null,"momentary":null,"name":"","peak":"0.000035","range":null,"short":null,"take":3,"true_peak":-8936}"#;
 
-/// What is asked in turn, with the status and the body of its reply, where the vault's first call
-/// and the keeper's second fail. A function of its own, so that the test's proof does not carry it.
-fn cases() -> [(Asked, u16, &'static str); 15] {
+/// About the second recording, in the first album.
+const SECOND: &str =
+    r#"{"album":1,"channels":1,"depth":16,"frames":4,"gain":null,"id":2,"kind":"wave","loudness":null,"momentary":null,"name":"","peak":"0.537233","range":null,"short":null,"take":2,"true_peak":-540}"#;
+
+/// About the first album, without recordings.
+const ALBUM_A: &str =
+    r#"{"gain":null,"id":1,"loudness":null,"momentary":null,"name":"A","peak":"0.000000","range":null,"recordings":[],"short":null,"true_peak":null}"#;
+
+/// About the second one.
+const ALBUM_B: &str =
+    r#"{"gain":null,"id":2,"loudness":null,"momentary":null,"name":"B","peak":"0.000000","range":null,"recordings":[],"short":null,"true_peak":null}"#;
+
+/// About the first album with both recordings.
+const A_OF_BOTH: &str =
+    r#"{"gain":null,"id":1,"loudness":null,"momentary":null,"name":"A","peak":"0.537233","range":null,"recordings":[1,2],"short":null,"true_peak":-540}"#;
+
+/// About it with the second recording alone.
+const A_OF_SECOND: &str =
+    r#"{"gain":null,"id":1,"loudness":null,"momentary":null,"name":"A","peak":"0.537233","range":null,"recordings":[2],"short":null,"true_peak":-540}"#;
+
+/// About the second album with the first recording.
+const B_OF_FIRST: &str =
+    r#"{"gain":null,"id":2,"loudness":null,"momentary":null,"name":"B","peak":"0.537233","range":null,"recordings":[1],"short":null,"true_peak":-540}"#;
+
+/// About it once that has another file.
+const B_RETAKEN: &str =
+    r#"{"gain":null,"id":2,"loudness":null,"momentary":null,"name":"B","peak":"0.000035","range":null,"recordings":[1],"short":null,"true_peak":-8936}"#;
+
+/// The token and the mark's bytes of a request, what it asks, and the status and the body of its reply.
+type Case = (&'static str, u8, Asks, u16, &'static str);
+
+/// Requests in turn, where the vault's first call and the keeper's second fail. A function of its own,
+/// so that the test's proof does not carry it.
+fn cases() -> [Case; 27] {
     [
-        (Asked::Import(b""), 422, NO_KIND),
-        (Asked::Import(b"PK\x03\x04"), 422, NO_KIND),
         (
-            Asked::Import(b"fLaC\0\0\0\x22"),
-            422,
-            r#"{"error":"format","place":4,"rule":"F2"}"#,
+            "t1",
+            1,
+            Asks::Import(None, FOUR),
+            502,
+            r#"{"error":"vault"}"#,
         ),
         (
-            Asked::Import(CUT),
+            "t1",
+            1,
+            Asks::Import(None, FOUR),
+            504,
+            r#"{"error":"keeper"}"#,
+        ),
+        ("t1", 1, Asks::Import(None, FOUR), 201, FIRST),
+        ("t1", 1, Asks::Import(None, FOUR), 201, FIRST),
+        (
+            "t1",
+            2,
+            Asks::Import(None, FOUR),
+            409,
+            r#"{"error":"token-used"}"#,
+        ),
+        (
+            "t2",
+            1,
+            Asks::Import(Some(1), CUT),
+            404,
+            r#"{"error":"no-album"}"#,
+        ),
+        ("t2", 1, Asks::NewAlbum("A"), 201, ALBUM_A),
+        (
+            "t3",
+            1,
+            Asks::Import(Some(1), CUT),
             422,
             r#"{"error":"format","place":36,"rule":"V4"}"#,
         ),
+        ("t3", 2, Asks::Import(Some(1), FOUR), 201, SECOND),
+        ("t4", 1, Asks::NewAlbum("B"), 201, ALBUM_B),
         (
-            Asked::Import(MISALIGNED),
-            422,
-            r#"{"error":"format","place":32,"rule":"V12"}"#,
+            "t5",
+            1,
+            Asks::Regroup(9, Some(77)),
+            404,
+            r#"{"error":"no-recording"}"#,
         ),
-        (Asked::Import(FOUR), 502, r#"{"error":"vault"}"#),
-        (Asked::Import(FOUR), 504, r#"{"error":"keeper"}"#),
-        (Asked::Import(FOUR), 201, FIRST),
-        (Asked::Import(FOUR), 201, SECOND),
-        (Asked::Import(FLAC), 201, THIRD),
-        (Asked::Import(SIXTEEN), 201, FOURTH),
-        (Asked::Recording(1), 200, FIRST),
-        (Asked::Recording(2), 200, SECOND),
-        (Asked::Recording(3), 200, THIRD),
-        (Asked::Recording(5), 404, r#"{"error":"no-recording"}"#),
+        (
+            "t5",
+            1,
+            Asks::Regroup(1, Some(77)),
+            404,
+            r#"{"error":"no-album"}"#,
+        ),
+        ("t5", 1, Asks::Regroup(1, Some(1)), 200, FIRST_IN_ONE),
+        ("", 0, Asks::Album(1), 200, A_OF_BOTH),
+        ("t6", 1, Asks::Regroup(1, Some(1)), 200, FIRST_IN_ONE),
+        ("t7", 1, Asks::Regroup(1, Some(2)), 200, FIRST_IN_TWO),
+        ("", 0, Asks::Album(1), 200, A_OF_SECOND),
+        ("", 0, Asks::Album(2), 200, B_OF_FIRST),
+        ("t8", 1, Asks::Retake(1, FLAC), 200, FIRST_RETAKEN),
+        ("", 0, Asks::Album(2), 200, B_RETAKEN),
+        (
+            "t9",
+            1,
+            Asks::RemoveAlbum(2),
+            409,
+            r#"{"error":"not-empty"}"#,
+        ),
+        ("t9", 1, Asks::Remove(1), 200, r#"{"removed":1}"#),
+        (
+            "",
+            0,
+            Asks::Recording(1),
+            404,
+            r#"{"error":"no-recording"}"#,
+        ),
+        ("t10", 1, Asks::RemoveAlbum(2), 200, r#"{"removed":2}"#),
+        ("", 0, Asks::Album(2), 404, r#"{"error":"no-album"}"#),
+        ("", 0, Asks::Recording(2), 200, SECOND),
+        (
+            "t11",
+            1,
+            Asks::Retake(0, FLAC),
+            404,
+            r#"{"error":"no-recording"}"#,
+        ),
     ]
 }
 
 #[test]
 fn requests_are_answered_in_turn(rt: HostRuntime) -> Result<(), Fail> {
     let mut objects = open(&rt, rt.alloc(), 2, 1)?;
-    for (asked, status, body) in cases() {
-        let reply = match asked {
-            Asked::Import(file) => import(&rt, &mut objects, file, 4, &OpenGate)?,
-            Asked::Recording(id) => {
-                let question = Question::Recording(id);
-                ask(&objects.library, &question, &mut objects.vault)?
-            }
+    for (token, mark, asks, status, body) in cases() {
+        let reply = answer(&rt, &mut objects, token, mark, asks, &OpenGate)?;
+        let Some(reply) = reply else {
+            assert!(rt; false, "{asks:?}");
+            return Ok(());
         };
-        assert_eq!(rt; reply.status, status, "{asked:?}");
-        assert_eq!(rt; reply.body.as_slice(), body.as_bytes(), "{asked:?}");
+        assert_eq!(rt; reply.status, status, "{asks:?}");
+        assert_eq!(rt; reply.body.as_slice(), body.as_bytes(), "{asks:?}");
     }
+    // the takes 1 and 3 were released, and the vault holds the second alone
+    assert_eq!(rt; objects.vault.blobs().len(), 1);
     Ok(())
 }
 
@@ -251,8 +456,9 @@ fn two_jobs_meet(rt: HostRuntime) -> Result<(), Fail> {
         second: AtomicU64::new(0),
         met: AtomicU64::new(0),
     };
-    let reply = import(&rt, &mut objects, STEREO, 2, &gate)?;
-    assert_eq!(rt; reply.status, 201);
+    let asks = Asks::Import(None, STEREO);
+    let reply = answer(&rt, &mut objects, "t1", 1, asks, &gate)?;
+    assert_eq!(rt; reply.map(|reply| reply.status), Some(201));
     assert_eq!(rt; gate.met.load(Ordering::SeqCst), 2);
     Ok(())
 }

@@ -1,9 +1,14 @@
+pub mod Albums
 pub mod Answering
+pub mod Backed
 pub mod Changed
-pub mod IdLemmas
-pub mod Importing
+pub mod Counts
+pub mod Held
+pub mod Laws
+pub mod Moved
 pub mod Placed
+pub mod Rooms
 pub mod Summed
+pub mod Sums
 pub mod Taken
-pub mod Tokens
 pub mod Unbroken

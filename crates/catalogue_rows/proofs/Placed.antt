@@ -9,6 +9,7 @@ use Rattle.std.proofs.lemmas.List.Elements.{All-from_recursion, All-head, All-ta
 use Rattle.std.proofs.lemmas.Result.{on_ok_weaker}
 use Rattle.std.proofs.lemmas.List.Sums.{length-filter}
 use Rattle.lib_base.specs.declared.files.Measured.{Measured}
+use Rattle.lib_base.specs.declared.limits.TheConstants.{MOST_MEMBERS}
 use Rattle.keeper_store.specs.declared.contents.Tables.{Tables}
 use Rattle.keeper_store.specs.declared.row_types.AlbumRow.{AlbumRow}
 use Rattle.keeper_store.specs.declared.row_types.RecordingRow.{RecordingRow}
@@ -16,10 +17,9 @@ use Rattle.keeper_store.specs.Puts.{Ascends, album_less, recording_less}
 use Rattle.keeper_store.proofs.Putting.{AllByRecursion-weaken, All-at}
 use Rattle.album_merge.specs.Members.{Kept, IsAlbumOf, ids_of, placed, recording_id, with_recording}
 use Rattle.album_merge.proofs.Joining.{has_none, ids_joined}
-use Rattle.library_model.specs.declared.limits.TheConstants.{MOST_MEMBERS}
 use Rattle.library_model.specs.RowRules.{measured_in, members_in, is_in_album, member_count, has_album}
 use Rattle.catalogue_rows.specs.Opening.{AreAlbumsOf, HasPlace, HavePlace, with_one, with_row}
-use Rattle.catalogue_rows.specs.Tallied.{album_of}
+use Rattle.catalogue_rows.specs.Holding.{album_of}
 
 -- what follows where a call succeeds
 pub OnOk_then : {T E P Q : Type 0} (r : Result T E) → OnOk r P → (P → Q) → OnOk r Q

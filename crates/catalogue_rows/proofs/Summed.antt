@@ -17,7 +17,7 @@ use Rattle.sound_model.specs.Albums.{IsAlbumSummary}
 use Rattle.library_model.specs.declared.bad_rows.BadRow.{BadRow}
 use Rattle.library_model.specs.RowRules.{IsFirstWithout, IsSummedAlbum, IsSummedRecording, other_album_summary, other_recording_summary, measured_in, members_in}
 use Rattle.catalogue_rows.specs.Opening.{IsFirstAnswer, IsFirstOther, IsOther}
-use Rattle.catalogue_rows.specs.Tallied.{album_of}
+use Rattle.catalogue_rows.specs.Holding.{album_of}
 use Rattle.catalogue_rows.proofs.Unbroken.{and_true}
 
 -- a first one stays the first with more rows behind

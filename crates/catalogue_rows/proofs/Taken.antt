@@ -5,6 +5,7 @@ use Rattle.std.specs.Option.{option_or}
 use Rattle.std.proofs.Math.ListN.{get_or}
 use Rattle.std.proofs.lemmas.List.{take_more}
 use Rattle.lib_base.specs.declared.files.Measured.{Measured}
+use Rattle.lib_base.specs.declared.limits.TheConstants.{MOST_MEMBERS}
 use Rattle.keeper_store.specs.declared.contents.Tables.{Tables}
 use Rattle.keeper_store.specs.declared.row_types.AlbumRow.{AlbumRow}
 use Rattle.keeper_store.specs.declared.row_types.RecordingRow.{RecordingRow}
@@ -14,11 +15,10 @@ use Rattle.keeper_store.proofs.Putting.{All-at}
 use Rattle.album_merge.specs.Members.{IsAlbumOf}
 use Rattle.album_merge.specs.Tallies.{Tallied}
 use Rattle.library_model.specs.declared.bad_rows.BadRow.{BadRow}
-use Rattle.library_model.specs.declared.limits.TheConstants.{MOST_MEMBERS}
 use Rattle.library_model.specs.RowRules.{first_bad_row, measured_in, is_in_album, album_is_there, member_count, IsSummedRecording, other_recording_summary, IsFirstBad}
 use Rattle.catalogue_rows.specs.declared.building.Built.{Built}
 use Rattle.catalogue_rows.specs.Opening.{AreAlbumsOf, AreOwn, AreSummed, HasPlace, HavePlace, IsBuilt, IsFirstOther, IsFirstSummary, IsOther, with_row}
-use Rattle.catalogue_rows.specs.Tallied.{HasOwn, album_of}
+use Rattle.catalogue_rows.specs.Holding.{HasOwn, album_of}
 use Rattle.catalogue_rows.proofs.Placed.{AllZip-more, AllZip-weaken, AllByRecursion-any, album_more, earlier, has_place}
 use Rattle.catalogue_rows.proofs.Summed.{other_more}
 use Rattle.catalogue_rows.proofs.Unbroken.{unbroken}

@@ -5,7 +5,7 @@ use Rattle.std.specs.List.{AllByRecursion, list_all, find}
 use Rattle.std.specs.Option.{option_or}
 use Rattle.std.proofs.lemmas.Bool.Decides.{nat_tests}
 use Rattle.std.proofs.lemmas.List.Elements.{All-nil, All-cons, All-contains, All-from_recursion}
-use Rattle.lib_base.specs.declared.limits.TheConstants.{MOST_CHANNELS}
+use Rattle.lib_base.specs.declared.limits.TheConstants.{MOST_CHANNELS, GREATEST_ENERGY, MOST_SAMPLES, GREATEST_PEAK, MOST_MEMBERS, SEGMENT_FRAMES}
 use Rattle.keeper_store.specs.declared.contents.Tables.{Tables}
 use Rattle.keeper_store.specs.declared.row_types.AlbumRow.{AlbumRow}
 use Rattle.keeper_store.specs.declared.row_types.RecordingRow.{RecordingRow}
@@ -19,10 +19,8 @@ use Rattle.library_model.specs.declared.bad_rows.BadRow.{BadRow}
 use Rattle.library_model.specs.declared.bad_rows.RowRule.{RowRule}
 use Rattle.library_model.specs.declared.bad_rows.RowTable.{RowTable}
 use Rattle.library_model.specs.declared.bad_rows.RowTable.TheVariants.{Counters}
-use Rattle.library_model.specs.declared.limits.TheConstants.{MOST_MEMBERS}
 use Rattle.library_model.specs.RowRules.{first_bad_row, first_bad_of, bad_at, bad_album, bad_recording, bad_segments, bad_reply, counters_rule, album_rule, recording_rule, energies_rule, is_placed, is_depth, is_sound, are_energies_of, BesideRow, recording_before, beside_row, album_is_there, has_segments, is_named, frames_of_take, member_count, energies_of_take, measured_in}
-use Rattle.sound_model.specs.Segments.{greatest_energy}
-use Rattle.sound_model.specs.Summaries.{IsWithinBounds, most_frames, greatest_peak}
+use Rattle.sound_model.specs.Summaries.{IsWithinBounds}
 use Rattle.catalogue_rows.specs.Measuring.{AreDecoded, IsDecodedTake}
 
 -- ---- what tests tell
@@ -150,19 +148,19 @@ within_from most (e ∷ es) is =
 -- bytes that decode to energies of so many frames
 pub record AreEnergiesOf (frames : ℕ) (bytes : List ℕ) : Type 0 where
   pub whole : length bytes % 11 ≡ 0
-  pub small : All (λ e. e ≤ greatest_energy) (energies_in bytes)
-  pub count : length (energies_in bytes) ≡ frames / 4800
+  pub small : All (λ e. e ≤ GREATEST_ENERGY) (energies_in bytes)
+  pub count : length (energies_in bytes) ≡ frames / SEGMENT_FRAMES
 
 energies_tested : (frames : ℕ) (bytes : List ℕ) → are_energies_of frames bytes ≡ true → AreEnergiesOf frames bytes
 energies_tested frames bytes is =
-    let all : Bool = list_all (λ e. nat_le e greatest_energy) (energies_in bytes) in
-    let last = and_true ((length bytes % 11 == 0) && all) (length (energies_in bytes) == frames / 4800) is in
+    let all : Bool = list_all (λ e. nat_le e GREATEST_ENERGY) (energies_in bytes) in
+    let last = and_true ((length bytes % 11 == 0) && all) (length (energies_in bytes) == frames / SEGMENT_FRAMES) is in
     let first = and_true (length bytes % 11 == 0) all last.0 in
     let whole : (length bytes % 11 == 0) ≡ true = first.0 in
-    let count : (length (energies_in bytes) == frames / 4800) ≡ true = last.1 in
+    let count : (length (energies_in bytes) == frames / SEGMENT_FRAMES) ≡ true = last.1 in
     record {
       whole = grind (arith, nat_tests, whole);
-      small = within_from greatest_energy (energies_in bytes) first.1;
+      small = within_from GREATEST_ENERGY (energies_in bytes) first.1;
       count = grind (arith, nat_tests, count);
     }
 
@@ -226,13 +224,13 @@ frames_here seen row rows none =
     frames_onto row.take seen (row ∷ rows) none ∙ rw same refl
 
 -- what the tests of a sound tell
-sound_facts : (row : RecordingRow) → is_sound row ≡ true → (row.summary.frames ≤ most_frames) × (row.summary.peak ≤ greatest_peak)
+sound_facts : (row : RecordingRow) → is_sound row ≡ true → (row.summary.frames ≤ MOST_SAMPLES) × (row.summary.peak ≤ GREATEST_PEAK)
 sound_facts row is =
     let before : Bool = nat_le 1 row.channels && nat_le row.channels MOST_CHANNELS && is_depth row.kind row.depth in
-    let last = and_true (before && nat_le row.summary.frames most_frames) (nat_le row.summary.peak greatest_peak) is in
-    let both = and_true before (nat_le row.summary.frames most_frames) last.0 in
-    let frames : nat_le row.summary.frames most_frames ≡ true = both.1 in
-    let peak : nat_le row.summary.peak greatest_peak ≡ true = last.1 in
+    let last = and_true (before && nat_le row.summary.frames MOST_SAMPLES) (nat_le row.summary.peak GREATEST_PEAK) is in
+    let both = and_true before (nat_le row.summary.frames MOST_SAMPLES) last.0 in
+    let frames : nat_le row.summary.frames MOST_SAMPLES ≡ true = both.1 in
+    let peak : nat_le row.summary.peak GREATEST_PEAK ≡ true = last.1 in
     (grind (arith, nat_tests, frames), grind (arith, nat_tests, peak))
 
 -- ---- what holds of the tables
@@ -288,7 +286,7 @@ recording_holds t right before row rest split is =
       within = record {
         frames = sound.0;
         count = ap (λ (es : List ℕ). length es) kept ∙ energies.count;
-        energies = subst (λ (es : List ℕ). All (λ e. e ≤ greatest_energy) es) (sym kept) energies.small;
+        energies = subst (λ (es : List ℕ). All (λ e. e ≤ GREATEST_ENERGY) es) (sym kept) energies.small;
         peak = sound.1;
       };
     }

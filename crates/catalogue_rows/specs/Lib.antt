@@ -1,7 +1,9 @@
 pub mod Holding
 pub mod KeptOrders
-pub mod Looking
 pub mod Making
 pub mod Measuring
 pub mod Opening
-pub mod Tallied
+pub mod Places
+pub mod Room
+pub mod Seeing
+pub mod Trying

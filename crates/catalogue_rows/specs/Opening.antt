@@ -2,10 +2,10 @@
 use Rattle.std.specs.Prelude.{◌≡◌, ◌<◌, ℕ, true, List, Option, None, Some, length, Contains, if◌then◌else◌, ◌==◌, ◌⊎◌, ⊤}
 use Rattle.std.specs.List.{AllByRecursion, AllZip}
 use Rattle.lib_base.specs.declared.files.Measured.{Measured}
+use Rattle.lib_base.specs.declared.limits.TheConstants.{MOST_MEMBERS}
 use Rattle.keeper_store.specs.declared.contents.Tables.{Tables}
 use Rattle.keeper_store.specs.declared.row_types.AlbumRow.{AlbumRow}
 use Rattle.keeper_store.specs.declared.row_types.RecordingRow.{RecordingRow}
-use Rattle.album_merge.specs.Bounds.{most_recordings}
 use Rattle.album_merge.specs.Members.{Kept, IsAlbumOf, ids_of, with_recording}
 use Rattle.album_merge.specs.Tallies.{Tallied}
 use Rattle.library_model.specs.declared.bad_rows.BadRow.{BadRow}
@@ -13,7 +13,7 @@ use Rattle.library_model.specs.RowRules.{measured_in, is_in_album, IsFirstBad, I
 use Rattle.catalogue_rows.specs.declared.building.Built.{Built}
 use Rattle.catalogue_rows.specs.declared.opening.NotOpened.{NotOpened}
 use Rattle.catalogue_rows.specs.declared.opening.NotOpened.TheVariants.{BadRow as Bad, Memory}
-use Rattle.catalogue_rows.specs.Tallied.{HasOwn, album_of}
+use Rattle.catalogue_rows.specs.Holding.{HasOwn, album_of}
 
 -- the first of the rows of which a fact does not hold, if there is one
 abbrev pub IsFirstOther : {A : Type 0} → (A → Type 0) → (A → BadRow) → List A → Option BadRow → Type 0
@@ -70,7 +70,7 @@ TellsBad t Memory = ⊤
 -- an album that has not this id, and fewer recordings than it can have
 pub record HasPlace (id : ℕ) (album : Kept) : Type 0 where
   pub fresh : ¬ Contains (ids_of album) id
-  pub few : length (ids_of album) < most_recordings
+  pub few : length (ids_of album) < MOST_MEMBERS
 
 -- of albums, one for each row, that of this id has a place
 abbrev pub HavePlace : (album : Option ℕ) (id : ℕ) → List AlbumRow → List Kept → Type 0

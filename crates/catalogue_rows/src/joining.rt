@@ -1,6 +1,6 @@
 //! Rows joined with what is kept beside them.
 ghost use Rattle.std.specs.Prelude.{◌≡◌, length, map, IfOk};
-ghost use Rattle.catalogue_rows.specs.Tallied.{album_row, album_members, recording_row, own_tally};
+ghost use Rattle.catalogue_rows.specs.Holding.{album_row, album_members, recording_row, own_tally};
 
 use crate::kept::{KeptAlbum, KeptRecording};
 use album_merge::{Album, TrackTally};

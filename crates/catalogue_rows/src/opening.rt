@@ -3,13 +3,14 @@ ghost use Rattle.std.specs.Prelude.{◌≡◌, None, IfOk, IfErr, OnOk};
 ghost use Rattle.keeper_store.specs.Held.{RowsAscend};
 ghost use Rattle.library_model.specs.RowRules.{first_bad_row, IsFirstBad};
 ghost use Rattle.catalogue_rows.specs.Opening.{IsBuilt, TellsBad};
-ghost use Rattle.catalogue_rows.specs.Tallied.{Holds};
+ghost use Rattle.catalogue_rows.specs.Holding.{Holds};
 
-use crate::TalliedRows;
+use crate::CatalogueRows;
 use crate::building::{Built, build};
 use crate::joining::{join_albums, join_recordings};
 use crate::summing::first_other;
 use keeper_store::Tables;
+use kept_replies::KeptReplies;
 use lib_base::Memory;
 use library_model::BadRow;
 use std::alloc::Global;
@@ -32,7 +33,7 @@ pub fn open_rows<R: Threads + Sync>(
     rt: &R,
     alloc: Global,
     tables: Tables,
-) -> Result<TalliedRows, NotOpened>
+) -> Result<CatalogueRows, NotOpened>
     ensures holds { IfOk result (λ rows. Holds rows tables) }
     ensures unbroken { OnOk result (IsFirstBad tables None) }
     ensures bad { IfErr result (TellsBad tables) }
@@ -49,7 +50,7 @@ fn open_unbroken<R: Threads + Sync>(
     rt: &R,
     alloc: Global,
     tables: Tables,
-) -> Result<TalliedRows, NotOpened>
+) -> Result<CatalogueRows, NotOpened>
     requires { first_bad_row tables ≡ None }
     ensures holds { IfOk result (λ rows. Holds rows tables) }
     ensures unbroken { OnOk result (IsFirstBad tables None) }
@@ -69,19 +70,20 @@ fn open_unbroken<R: Threads + Sync>(
 }
 
 /// Keeps the rows of tables, each with what was made of it.
-fn keep(alloc: Global, tables: Tables, built: Built) -> Result<TalliedRows, Memory>
+fn keep(alloc: Global, tables: Tables, built: Built) -> Result<CatalogueRows, Memory>
     requires order { RowsAscend tables }
     requires built { IsBuilt tables tables.recordings built }
     ensures { IfOk result (λ rows. Holds rows tables) }
 {
     let albums = join_albums(alloc, tables.albums.into_vec(), built.albums)?;
     let recordings = join_recordings(alloc, tables.recordings.into_vec(), built.tallies)?;
-    Ok(TalliedRows {
+    let replies = KeptReplies::of(alloc, tables.replies.into_vec())?;
+    Ok(CatalogueRows {
         next_album: tables.next_album,
         next_recording: tables.next_recording,
         next_take: tables.next_take,
         albums,
         recordings,
-        replies: tables.replies.into_vec(),
+        replies,
     })
 }

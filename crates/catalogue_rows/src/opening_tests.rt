@@ -1,11 +1,19 @@
 //! Tables that are opened, each with the bad row that is told, and rows looked up and changed.
-use crate::{NotOpened, open_rows};
+ghost use Rattle.std.specs.Prelude.{◌≡◌, ◌<◌, ℕ};
+ghost use Rattle.catalogue_rows.specs.Room.{puts_one};
+
+use crate::{CatalogueRows, Fresh, NotOpened, open_rows};
 use album_merge::Album;
-use keeper_store::{AlbumRow, RecordingRow, ReplyRow, Rows, SegmentRow, Tables, bytes_of};
-use lib_base::{Bytes, Kind, Memory, Summary, Text};
+use keeper_store::{AlbumRow, Change, RecordingRow, ReplyRow, Rows, SegmentRow, Tables, bytes_of};
+use kept_replies::{Seen, Token};
+use lib_base::{Bytes, Kind, Memory, Steps, Summary, Text};
 use library_model::{BadRow, RowRule, RowTable};
 use std::alloc::Global;
+use std::marker::{Brand, Sync};
+use std::process::Abort;
+use std::sync::ledger::{Blank, Ledger};
 use std::test::Fail;
+use std::thread::Threads;
 
 /// The energy of a segment at 19 times the square of full scale a frame.
 const LOUD: u128 = 364_800 << 54;
@@ -141,19 +149,45 @@ fn first_bad_row_is_told(rt: HostRuntime) -> Result<(), Fail> {
     Ok(())
 }
 
+/// Makes one change that puts no recording.
+fn make(alloc: Global, rows: &mut CatalogueRows, change: Change, fresh: Fresh) -> Result<(), Memory>
+    requires { (id : ℕ) → puts_one change id ≡ 0 }
+{
+    let mut changes = Vec::new(alloc);
+    changes.push(change)?;
+    rows.reserve(1)?;
+    rows.make_all(changes, fresh);
+    Ok(())
+}
+
 // Once an album and a reply were put, and a recording and the album 5 were dropped.
 #[test]
 fn opened_rows_are_found(rt: HostRuntime) -> Result<(), Fail> {
     let alloc = rt.alloc();
     let mut rows = open_rows(&rt, alloc, tables(alloc, 0, 0, 200)?)?;
-    let members = Album::new(alloc)?;
-    let kept = reply(alloc, "a", 200)?;
-    rows.reserve(1)?;
-    rows.put_empty_album(album(alloc, 3, 0, 0), members);
-    rows.reserve(1)?;
-    rows.put_reply(kept);
-    rows.drop_alone(7);
-    rows.drop_album(5);
+    let fresh = Fresh {
+        tally: None,
+        album: Some(Album::new(alloc)?),
+    };
+    make(
+        alloc,
+        &mut rows,
+        Change::PutAlbum(album(alloc, 3, 0, 0)),
+        fresh,
+    )?;
+    make(
+        alloc,
+        &mut rows,
+        Change::PutReply(reply(alloc, "a", 200)?),
+        Fresh::none(),
+    )?;
+    make(
+        alloc,
+        &mut rows,
+        Change::DropRecording { id: 7 },
+        Fresh::none(),
+    )?;
+    make(alloc, &mut rows, Change::DropAlbum { id: 5 }, Fresh::none())?;
     let next = rows.next_numbers();
     assert_eq!(rt; (next.album, next.recording, next.take), (6, 8, 10));
     for (id, take) in [
@@ -178,13 +212,75 @@ fn opened_rows_are_found(rt: HostRuntime) -> Result<(), Fail> {
         );
         assert_eq!(rt; rows.members(id).map(|album| album.len()), members, "{id}");
     }
-    for (token, status) in [
-        ("B", Some(200)),
-        ("a", Some(200)),
-        ("b", Some(201)),
-        ("b-", None),
-    ] {
-        assert_eq!(rt; rows.reply(token).map(|row| row.status), status, "{token}");
+    for (token, status) in [("B", 200), ("a", 200), ("b", 201), ("b-", 0)] {
+        let Some(named) = Token::of(alloc, token.as_bytes())? else {
+            return Ok(());
+        };
+        let seen = match rows.seen(&named, &[0; 16]) {
+            Seen::Kept(reply) => reply.status,
+            Seen::Fresh | Seen::Other => 0,
+        };
+        assert_eq!(rt; seen, status, "{token}");
     }
     Ok(())
+}
+
+/// Moves a recording into an album, and tells the album's levels as they were tried before.
+fn move_into<L: Ledger>(
+    alloc: Global,
+    rows: &mut CatalogueRows,
+    id: u32,
+    album: u32,
+    steps: &mut Steps<L>,
+) -> Result<Option<Summary>, Memory> {
+    let Some(found) = rows.recording(id) else {
+        return Ok(None);
+    };
+    let mut row = found.clone()?;
+    row.album = Some(album);
+    let mut changes = Vec::new(alloc);
+    changes.push(Change::PutRecording(row))?;
+    rows.reserve(1)?;
+    rows.reserve_in(Some(album))?;
+    let tried = rows.summary_with_moved(album, id, steps);
+    rows.make_all(changes, Fresh::none());
+    Ok(tried)
+}
+
+/// Moves of recordings between two albums, each with the frames that both have after it.
+fn move_all<R: Abort + Threads + Sync, L: Ledger>(
+    rt: &R,
+    alloc: Global,
+    blank: Blank,
+) -> Result<(), Fail>
+    requires name { blank.name ≡ L.name }
+    requires parts { blank.parts ≡ L.parts }
+    requires some { 0 < blank.parts }
+{
+    let mut steps: Steps<L> = Steps::new(blank);
+    let mut rows = open_rows(rt, alloc, tables(alloc, 0, 0, 200)?)?;
+    for (id, album, in_two, in_five) in [
+        (4, 2, 57_600, 19_200),
+        (1, 5, 38_400, 38_400),
+        (4, 2, 38_400, 38_400),
+        (6, 2, 57_600, 19_200),
+        (1, 2, 76_800, 0),
+        (9, 5, 76_800, 0),
+        (7, 5, 76_800, 19_200),
+    ] {
+        let tried = move_into(alloc, &mut rows, id, album, &mut steps)?;
+        let two = rows.summary_without(2, 0, &mut steps);
+        let five = rows.summary_without(5, 0, &mut steps);
+        if id != 9 {
+            assert_eq!(rt; tried, if album == 2 { two } else { five }, "{id} {album}");
+        }
+        assert_eq!(rt; two.map(|levels| levels.frames), Some(in_two), "{id}");
+        assert_eq!(rt; five.map(|levels| levels.frames), Some(in_five), "{id}");
+    }
+    Ok(())
+}
+
+#[test]
+fn recordings_move_with_their_tallies(rt: HostRuntime) -> Result<(), Fail> {
+    move_all::<HostRuntime, Brand>(&rt, rt.alloc(), Blank::new(1))
 }

@@ -6,7 +6,7 @@ ghost use Rattle.album_merge.specs.Members.{IsAlbumOf, with_recording};
 ghost use Rattle.album_merge.specs.Tallies.{StandsForMeasured};
 ghost use Rattle.library_model.specs.RowRules.{album_is_there, has_album};
 ghost use Rattle.catalogue_rows.specs.Opening.{AreAlbumsOf, HavePlace, HasPlace, with_one, with_row};
-ghost use Rattle.catalogue_rows.specs.Tallied.{HasOwn};
+ghost use Rattle.catalogue_rows.specs.Holding.{HasOwn};
 
 use album_merge::{Album, TrackTally};
 use keeper_store::{AlbumRow, RecordingRow, find_place};

@@ -8,7 +8,7 @@ use Rattle.file_model.specs.Bits.{number}
 use Rattle.file_model.specs.Outcomes.{◌>>=◌}
 use Rattle.file_model.specs.Samples.{signed}
 
--- a number of so many bits
+-- a number of so many bits, and the bits behind it
 unfoldable pub field : ℕ → List Bool → Result (ℕ × List Bool) BitFault
 field count bits = if nat_lt (length bits) count then Err Cut else Ok (number (take count bits), drop count bits)
 

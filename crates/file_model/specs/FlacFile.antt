@@ -6,9 +6,9 @@ use Rattle.std.specs.Int.{w32, cast_unsigned}
 use Rattle.std.specs.Cmp.Lexicographic.{pointwise}
 use Rattle.md5.specs.Md5.{md5}
 use Rattle.lib_base.specs.Sounds.{part, samples_of}
-use Rattle.lib_base.specs.declared.limits.TheConstants.{SAMPLE_RATE, MOST_CHANNELS}
+use Rattle.lib_base.specs.declared.limits.TheConstants.{SAMPLE_RATE, MOST_CHANNELS, LEAST_DEPTH, GREATEST_DEPTH, MOST_SAMPLES}
 use Rattle.file_model.specs.declared.bits.BitFault.{BitFault}
-use Rattle.file_model.specs.declared.flac_fields.TheConstants.{BLOCKS_AT, BLOCK_HEAD_BYTES, STREAMINFO, COMMENTS, INVALID, STREAMINFO_BYTES, RATE_AT, CHANNELS_AT, TOTAL_AT, MD5_AT, LEAST_DEPTH, GREATEST_DEPTH, MOST_SAMPLES}
+use Rattle.file_model.specs.declared.flac_fields.TheConstants.{BLOCKS_AT, BLOCK_HEAD_BYTES, STREAMINFO, COMMENTS, INVALID, STREAMINFO_BYTES, RATE_AT, CHANNELS_AT, TOTAL_AT, MD5_AT}
 use Rattle.file_model.specs.declared.flac_info.Info.{Info}
 use Rattle.file_model.specs.declared.flac_rules.FlacRule.{FlacRule}
 use Rattle.file_model.specs.declared.flac_rules.FlacRule.TheVariants.{CutBlock, InvalidBlock, NoStreaminfo, RepeatedBlock, OtherRate, OtherChannels, OtherDepth, OtherTotal, OtherMd5, TooManySamples}

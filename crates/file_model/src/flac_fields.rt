@@ -30,12 +30,3 @@ pub const TOTAL_AT: usize = 13;
 
 /// Where in STREAMINFO the MD5 stands.
 pub const MD5_AT: usize = 18;
-
-/// How many bits a sample has at least.
-pub const LEAST_DEPTH: u32 = 4;
-
-/// How many bits a sample has at most.
-pub const GREATEST_DEPTH: u32 = 24;
-
-/// How many samples are read at most, over all channels.
-pub const MOST_SAMPLES: u64 = 134_217_728;

@@ -1,6 +1,7 @@
 //! The channels of a frame, one after another in the cells (RFC 9639 sections 4.2 and 9.2).
 ghost use Rattle.std.specs.Prelude.{◌≡◌, ◌≤◌, ◌+◌, ◌*◌, ℕ, [], ◌∷◌, Some, length, replicate, IfSome, OnOk};
 ghost use Rattle.std.specs.Simd.{first_chunks};
+ghost use Rattle.lib_base.specs.declared.limits.TheConstants.{LEAST_DEPTH, GREATEST_DEPTH};
 ghost use Rattle.bit_codec.specs.Reader.{left, source};
 ghost use Rattle.file_model.specs.FlacFrame.{Channels};
 ghost use Rattle.file_model.specs.Pairs.{first_depth, second_depth};
@@ -22,8 +23,8 @@ pub(crate) fn read_sound(
     info: &Info,
     cells: &mut [i32],
 ) -> Result<(), FlacRule>
-    requires low { 4 ≤ info.now.depth }
-    requires high { info.now.depth ≤ 24 }
+    requires low { LEAST_DEPTH ≤ info.now.depth }
+    requires high { info.now.depth ≤ GREATEST_DEPTH }
     requires block { header.now.block ≤ GREATEST_BLOCK }
     requires pair { IfSome header.now.stereo (λ _. info.now.channels ≡ 2) }
     requires room { info.now.channels * header.now.block ≤ length cells.old }
@@ -80,7 +81,7 @@ pub(crate) fn read_pair_at(
     cells: &mut [i32],
 ) -> Result<(), FlacRule>
     requires low { 1 ≤ depth }
-    requires high { depth ≤ 24 }
+    requires high { depth ≤ GREATEST_DEPTH }
     requires block { block ≤ GREATEST_BLOCK }
     requires room { 2 * block ≤ length cells.old }
     ensures comes { (channels : ℕ) → Comes (λ _. (first_chunks block 2 cells.new, left reader.new))
@@ -105,7 +106,7 @@ fn read_pair(
     second: &mut [i32],
 ) -> Result<(), FlacRule>
     requires low { 1 ≤ depth }
-    requires high { depth ≤ 24 }
+    requires high { depth ≤ GREATEST_DEPTH }
     requires block { length first.old ≤ GREATEST_BLOCK }
     requires equal { length second.old ≡ length first.old }
     ensures comes { (channels : ℕ) → Comes (λ _. (first.new ∷ second.new ∷ [], left reader.new))
@@ -129,7 +130,7 @@ fn read_pair(
 
 /// The bits of a number in the first channel of a pair.
 fn first_depth(kind: Stereo, depth: u32) -> u32
-    requires { depth ≤ 24 }
+    requires { depth ≤ GREATEST_DEPTH }
     ensures { result ≡ first_depth kind depth }
 {
     match kind {
@@ -140,7 +141,7 @@ fn first_depth(kind: Stereo, depth: u32) -> u32
 
 /// The bits of a number in the second one.
 fn second_depth(kind: Stereo, depth: u32) -> u32
-    requires { depth ≤ 24 }
+    requires { depth ≤ GREATEST_DEPTH }
     ensures { result ≡ second_depth kind depth }
 {
     match kind {

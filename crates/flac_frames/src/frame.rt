@@ -3,6 +3,7 @@ ghost use Rattle.std.specs.Prelude.{◌≡◌, ◌≤◌, ◌<◌, ◌+◌, ◌-
 ghost use Rattle.std.specs.Simd.{first_chunks};
 ghost use Rattle.bit_codec.specs.Reader.{left, source};
 ghost use Rattle.lib_base.specs.Sounds.{part, samples_of};
+ghost use Rattle.lib_base.specs.declared.limits.TheConstants.{LEAST_DEPTH, GREATEST_DEPTH, MOST_CHANNELS};
 ghost use Rattle.file_model.specs.Bits.{bits};
 ghost use Rattle.file_model.specs.Crc.{crc16};
 ghost use Rattle.file_model.specs.FlacFrame.{footer_at, Body, Frame};
@@ -48,9 +49,9 @@ pub fn read_frame(
 ) -> Result<FrameEnd, Broken>
     requires place { at ≤ length bytes.now }
     requires some { 1 ≤ info.now.channels }
-    requires few { info.now.channels ≤ 6 }
-    requires low { 4 ≤ info.now.depth }
-    requires high { info.now.depth ≤ 24 }
+    requires few { info.now.channels ≤ MOST_CHANNELS }
+    requires low { LEAST_DEPTH ≤ info.now.depth }
+    requires high { info.now.depth ≤ GREATEST_DEPTH }
     requires room { info.now.channels * GREATEST_BLOCK ≤ length scratch.old.cells }
     ensures frame { Answers (frame_in scratch.new.cells info.now.channels at) at
         (Frame info.now (drop at bytes.now)) result }
@@ -84,9 +85,9 @@ pub fn channel(scratch: &Scratch, block: u32, channel: usize) -> &[i32]
 fn frame_at(bytes: &[u8], at: usize, info: &Info, cells: &mut [i32]) -> Result<FrameEnd, FlacRule>
     requires place { at ≤ length bytes.now }
     requires some { 1 ≤ info.now.channels }
-    requires few { info.now.channels ≤ 6 }
-    requires low { 4 ≤ info.now.depth }
-    requires high { info.now.depth ≤ 24 }
+    requires few { info.now.channels ≤ MOST_CHANNELS }
+    requires low { LEAST_DEPTH ≤ info.now.depth }
+    requires high { info.now.depth ≤ GREATEST_DEPTH }
     requires room { info.now.channels * GREATEST_BLOCK ≤ length cells.old }
     ensures comes { Comes (frame_in cells.new info.now.channels at)
         (Frame info.now (drop at bytes.now)) result }
@@ -108,8 +109,8 @@ fn body_at(
     header: &Header,
     cells: &mut [i32],
 ) -> Result<FrameEnd, FlacRule>
-    requires low { 4 ≤ info.now.depth }
-    requires high { info.now.depth ≤ 24 }
+    requires low { LEAST_DEPTH ≤ info.now.depth }
+    requires high { info.now.depth ≤ GREATEST_DEPTH }
     requires fits { IsFit info.now bytes.now at header.now }
     requires room { info.now.channels * GREATEST_BLOCK ≤ length cells.old }
     ensures comes { Comes (frame_in cells.new info.now.channels at)

@@ -2,6 +2,7 @@
 ghost use Rattle.std.specs.Prelude.{◌≡◌, ◌≤◌, ◌<◌, ◌+◌, ◌*◌, ℕ, ℤ, Bool, List, Ok, length, drop, replicate, IfSome, IsSomeAnd, IsOkAnd};
 ghost use Rattle.bit_codec.specs.Reader.{left};
 ghost use Rattle.lib_base.specs.Sounds.{part, samples_of};
+ghost use Rattle.lib_base.specs.declared.limits.TheConstants.{LEAST_DEPTH, GREATEST_DEPTH, MOST_CHANNELS};
 ghost use Rattle.file_model.specs.FlacFrame.{FlacFrame, Channels, Body, Frame};
 ghost use Rattle.flac_frames.specs.Frames.{HasBlock, Sound};
 ghost use Rattle.flac_frames.specs.Headers.{header_of, IsFit};
@@ -29,9 +30,9 @@ pub fn read_one_channel(
     scratch: &mut Scratch,
 ) -> Option<u32>
     requires place { at ≤ length bytes.now }
-    requires few { info.now.channels ≤ 6 }
-    requires low { 4 ≤ info.now.depth }
-    requires high { info.now.depth ≤ 24 }
+    requires few { info.now.channels ≤ MOST_CHANNELS }
+    requires low { LEAST_DEPTH ≤ info.now.depth }
+    requires high { info.now.depth ≤ GREATEST_DEPTH }
     requires index { index < info.now.channels }
     requires room { info.now.channels * GREATEST_BLOCK ≤ length scratch.old.cells }
     ensures frame { (frame : FlacFrame) → Frame info.now (drop at bytes.now) (Ok frame)
@@ -67,9 +68,9 @@ fn read_behind(
     index: usize,
     cells: &mut [i32],
 ) -> Result<(), FlacRule>
-    requires few { info.now.channels ≤ 6 }
-    requires low { 4 ≤ info.now.depth }
-    requires high { info.now.depth ≤ 24 }
+    requires few { info.now.channels ≤ MOST_CHANNELS }
+    requires low { LEAST_DEPTH ≤ info.now.depth }
+    requires high { info.now.depth ≤ GREATEST_DEPTH }
     requires index { index < info.now.channels }
     requires fits { IsFit info.now bytes.now at header.now }
     requires room { info.now.channels * GREATEST_BLOCK ≤ length cells.old }
@@ -90,9 +91,9 @@ fn read_one(
     index: usize,
     cells: &mut [i32],
 ) -> Result<(), FlacRule>
-    requires few { info.now.channels ≤ 6 }
-    requires low { 4 ≤ info.now.depth }
-    requires high { info.now.depth ≤ 24 }
+    requires few { info.now.channels ≤ MOST_CHANNELS }
+    requires low { LEAST_DEPTH ≤ info.now.depth }
+    requires high { info.now.depth ≤ GREATEST_DEPTH }
     requires index { index < info.now.channels }
     requires block { header.now.block ≤ GREATEST_BLOCK }
     requires pair { IfSome header.now.stereo (λ _. info.now.channels ≡ 2) }

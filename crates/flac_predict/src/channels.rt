@@ -2,6 +2,7 @@
 ghost use Rattle.std.specs.Prelude.{◌≡◌, ◌≤◌, ◌^◌, ℤ, pos, ◌+ℤ◌, ◌-ℤ◌, List, length, All, unsigned_abs, MatchOption, OnOk, IfErr, OnErr};
 ghost use Rattle.std.specs.Int.{int_div_euclid};
 ghost use Rattle.lib_base.specs.Sounds.{IsSample};
+ghost use Rattle.lib_base.specs.declared.limits.TheConstants.{GREATEST_DEPTH};
 ghost use Rattle.file_model.specs.Pairs.{first_depth, second_depth, IsPair, SpellsPair, IsPairOutside, LeavesPair};
 
 use crate::places::{OutOfDepth, sample_of};
@@ -19,7 +20,7 @@ pub fn undo_stereo(
     depth: u32,
 ) -> Result<(), OutOfDepth>
     requires low { 1 ≤ depth }
-    requires high { depth ≤ 24 }
+    requires high { depth ≤ GREATEST_DEPTH }
     requires equal { length second.old ≡ length first.old }
     requires first_within { All (IsSample (first_depth kind depth)) first.old }
     requires second_within { All (IsSample (second_depth kind depth)) second.old }

@@ -6,7 +6,7 @@ use Rattle.std.proofs.lemmas.List.{length_push}
 use Rattle.std.proofs.lemmas.List.Elements.{All-nil, All-append, All-push, All-get_or}
 use Rattle.std.proofs.lemmas.Nat.{mul-le}
 use Rattle.lib_base.specs.Sounds.{IsSample, IsSound, samples_of}
-use Rattle.file_model.specs.declared.flac_fields.TheConstants.{MOST_SAMPLES}
+use Rattle.lib_base.specs.declared.limits.TheConstants.{MOST_SAMPLES}
 use Rattle.file_model.specs.declared.flac_info.Info.{Info}
 use Rattle.file_model.specs.declared.flac_rules.FlacRule.TheVariants.{FrameRate, FrameChannels, FrameDepth, HeaderCheck, FrameCheck, TooManySamples, OtherTotal, OtherMd5}
 use Rattle.file_model.specs.Bits.{bits}

@@ -4,7 +4,7 @@ use Rattle.std.specs.Prelude.{nat_le, IfOk}
 use Rattle.std.proofs.lemmas.Bool.{leb-true}
 use Rattle.std.proofs.lemmas.Nat.{mul-le}
 use Rattle.lib_base.specs.declared.outcomes.Broken.{Broken}
-use Rattle.file_model.specs.declared.flac_fields.TheConstants.{MOST_SAMPLES}
+use Rattle.lib_base.specs.declared.limits.TheConstants.{MOST_SAMPLES}
 use Rattle.file_model.specs.declared.flac_info.Info.{Info}
 use Rattle.file_model.specs.declared.flac_rules.FlacRule.{FlacRule}
 use Rattle.file_model.specs.declared.flac_rules.FlacRule.TheVariants.{TooManySamples}

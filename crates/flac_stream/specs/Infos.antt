@@ -1,7 +1,6 @@
 -- What STREAMINFO says, with the rules that it may break.
 use Rattle.std.specs.Prelude.{◌==◌, ◌&&◌, ℕ, nat_le, if◌then◌else◌, List, Result, Ok}
-use Rattle.lib_base.specs.declared.limits.TheConstants.{SAMPLE_RATE, MOST_CHANNELS}
-use Rattle.file_model.specs.declared.flac_fields.TheConstants.{LEAST_DEPTH, GREATEST_DEPTH}
+use Rattle.lib_base.specs.declared.limits.TheConstants.{SAMPLE_RATE, MOST_CHANNELS, LEAST_DEPTH, GREATEST_DEPTH}
 use Rattle.file_model.specs.declared.flac_info.Info.{Info}
 use Rattle.file_model.specs.declared.flac_rules.FlacRule.{FlacRule}
 use Rattle.file_model.specs.declared.flac_rules.FlacRule.TheVariants.{OtherRate, OtherChannels, OtherDepth}

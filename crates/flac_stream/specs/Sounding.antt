@@ -5,6 +5,7 @@ use Rattle.std.proofs.Math.Logic.{∥∥₁_prop, ∥∥₁_elim}
 use mathlib.Core.HLevel.{Σ_prop_path}
 use Rattle.std.proofs.Common.{ap, sym, ◌∙◌}
 use Rattle.lib_base.specs.Sounds.{part, samples_of}
+use Rattle.lib_base.specs.declared.limits.TheConstants.{MOST_CHANNELS, LEAST_DEPTH, GREATEST_DEPTH}
 use Rattle.file_model.specs.FlacFile.{block_of, IsFlac}
 use Rattle.file_model.specs.FlacFrame.{FlacFrame, Frame}
 use Rattle.file_model.specs.Pcm.{Pcm}
@@ -55,9 +56,9 @@ pub record IsFrameAt (bytes : List ℕ) (file : Shape) (lists : List (List ℤ))
 -- The frames of a file stand at their places, and they are the sound of these lists.
 pub record AreFrames (bytes : List ℕ) (file : Shape) (lists : List (List ℤ)) : Type 0 where
   pub some : 1 ≤ file.info.channels
-  pub few : file.info.channels ≤ 6
-  pub low : 4 ≤ file.info.depth
-  pub high : file.info.depth ≤ 24
+  pub few : file.info.channels ≤ MOST_CHANNELS
+  pub low : LEAST_DEPTH ≤ file.info.depth
+  pub high : file.info.depth ≤ GREATEST_DEPTH
   pub channels : length lists ≡ file.info.channels
   pub none_before : samples_before file 0 ≡ 0
   pub rise : (index : ℕ) → index < length file.places → samples_before file index ≤ samples_before file (index + 1)

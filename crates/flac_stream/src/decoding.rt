@@ -1,6 +1,7 @@
 //! The samples of a FLAC file, in lists.
 ghost use Rattle.std.specs.Prelude.{◌≡◌, ◌≤◌, ◌*◌, length, map, replicate, [], IfOk, IfErr, OnOk};
 ghost use Rattle.std.specs.Simd.{first_chunks};
+ghost use Rattle.lib_base.specs.declared.limits.TheConstants.{LEAST_DEPTH, GREATEST_DEPTH, MOST_CHANNELS};
 ghost use Rattle.file_model.specs.FlacFile.{IsFlac};
 ghost use Rattle.flac_stream.specs.Answers.{IsRefusalOf};
 ghost use Rattle.flac_stream.specs.Blocks.{IsOpening};
@@ -64,9 +65,9 @@ fn decode_frames(
     requires place { start ≤ length bytes.now }
     requires started { IsStarted bytes.now info.now start }
     requires some { 1 ≤ info.now.channels }
-    requires few { info.now.channels ≤ 6 }
-    requires low { 4 ≤ info.now.depth }
-    requires high { info.now.depth ≤ 24 }
+    requires few { info.now.channels ≤ MOST_CHANNELS }
+    requires low { LEAST_DEPTH ≤ info.now.depth }
+    requires high { info.now.depth ≤ GREATEST_DEPTH }
     requires room { info.now.channels * GREATEST_BLOCK ≤ length scratch.old.cells }
     ensures ok { IfOk result (λ decoded. AreDecoded info.now bytes.now start (length bytes.now)
         decoded.heard (map (λ v. v.items) decoded.lists.items)) }

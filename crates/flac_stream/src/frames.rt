@@ -1,5 +1,6 @@
 //! The frames of a file, one after another (RFC 9639 section 9).
 ghost use Rattle.std.specs.Prelude.{◌≡◌, ◌≤◌, ◌<◌, ◌+◌, ◌*◌, ◌/◌, ◌++◌, ◌∷◌, [], ℕ, List, not, nat_le, length, drop, IfOk, IfErr, OnOk};
+ghost use Rattle.lib_base.specs.declared.limits.TheConstants.{LEAST_DEPTH, GREATEST_DEPTH, MOST_CHANNELS};
 ghost use Rattle.file_model.specs.FlacFile.{NextFrame};
 ghost use Rattle.flac_frames.specs.Answers.{Answers};
 ghost use Rattle.flac_frames.specs.Frames.{frame_in};
@@ -9,10 +10,9 @@ ghost use Rattle.flac_stream.specs.Hearing.{HaveHeard, HearNone, HearsMore};
 
 use crate::digest::SoundDigest;
 use crate::rules::breaks;
-use file_model::flac_fields::MOST_SAMPLES;
 use file_model::{FlacRule, Info};
 use flac_frames::{FrameEnd, GREATEST_BLOCK, read_frame, read_header};
-use lib_base::{Broken, Memory, Refused, Scratch};
+use lib_base::{Broken, MOST_SAMPLES, Memory, Refused, Scratch};
 use std::alloc::Global;
 
 /// Where a frame begins, and how many samples of each channel stand before it.
@@ -53,7 +53,7 @@ impl Frames {
         place: FramePlace,
         block: u32,
     ) -> Result<(), Memory>
-        requires depth { info.now.depth ≤ 24 }
+        requires depth { info.now.depth ≤ GREATEST_DEPTH }
         requires room { info.now.channels * block ≤ length scratch.now.cells }
         requires read { self.old.count + block ≤ MOST_SAMPLES }
         ensures places { OnOk result (self.new.places.items ≡ self.old.places.items ++ place ∷ []) }
@@ -81,9 +81,9 @@ pub(crate) fn read_frames(
     requires place { start ≤ length bytes.now }
     requires started { IsStarted bytes.now info.now start }
     requires some { 1 ≤ info.now.channels }
-    requires few { info.now.channels ≤ 6 }
-    requires low { 4 ≤ info.now.depth }
-    requires high { info.now.depth ≤ 24 }
+    requires few { info.now.channels ≤ MOST_CHANNELS }
+    requires low { LEAST_DEPTH ≤ info.now.depth }
+    requires high { info.now.depth ≤ GREATEST_DEPTH }
     requires room { info.now.channels * GREATEST_BLOCK ≤ length scratch.old.cells }
     ensures ok { IfOk result (HaveHeard info.now bytes.now start (length bytes.now)) }
     ensures err { IfErr result (λ refused. IsRefusalOf bytes.now refused) }
@@ -110,9 +110,9 @@ pub(crate) fn hear_next(
 ) -> Result<FrameEnd, Refused>
     requires place { at < length bytes.now }
     requires some { 1 ≤ info.now.channels }
-    requires few { info.now.channels ≤ 6 }
-    requires low { 4 ≤ info.now.depth }
-    requires high { info.now.depth ≤ 24 }
+    requires few { info.now.channels ≤ MOST_CHANNELS }
+    requires low { LEAST_DEPTH ≤ info.now.depth }
+    requires high { info.now.depth ≤ GREATEST_DEPTH }
     requires read { heard.old.count ≤ MOST_SAMPLES }
     requires room { info.now.channels * GREATEST_BLOCK ≤ length scratch.old.cells }
     ensures heard { let info = info.now in IfOk result (λ end. HearsMore info bytes.now at end.next
@@ -137,7 +137,7 @@ pub(crate) fn hear_next(
 
 /// How many bytes a sample takes.
 fn bytes_for(depth: u32) -> usize
-    requires { depth ≤ 24 }
+    requires { depth ≤ GREATEST_DEPTH }
     ensures value { result ≡ bytes_for depth }
     ensures few { result ≤ 4 }
 {
@@ -155,9 +155,9 @@ pub(crate) fn read_next(
 ) -> Result<FrameEnd, Broken>
     requires place { at ≤ length bytes.now }
     requires some { 1 ≤ info.now.channels }
-    requires few { info.now.channels ≤ 6 }
-    requires low { 4 ≤ info.now.depth }
-    requires high { info.now.depth ≤ 24 }
+    requires few { info.now.channels ≤ MOST_CHANNELS }
+    requires low { LEAST_DEPTH ≤ info.now.depth }
+    requires high { info.now.depth ≤ GREATEST_DEPTH }
     requires read { before ≤ MOST_SAMPLES }
     requires room { info.now.channels * GREATEST_BLOCK ≤ length scratch.old.cells }
     ensures frame { Answers (frame_in scratch.new.cells info.now.channels at) at
@@ -179,7 +179,7 @@ pub(crate) fn read_next(
 
 /// Whether more samples than a file can have are those before a block and the block's.
 fn is_too_much(channels: u32, before: u64, block: u32) -> bool
-    requires few { channels ≤ 6 }
+    requires few { channels ≤ MOST_CHANNELS }
     requires read { before ≤ MOST_SAMPLES }
     requires block { block ≤ GREATEST_BLOCK }
     ensures { result ≡ not (nat_le (channels * (before + block)) MOST_SAMPLES) }

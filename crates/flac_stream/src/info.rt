@@ -10,11 +10,10 @@ ghost use Rattle.flac_stream.specs.Infos.{info_ruled, place_in};
 use crate::rules::holds;
 use bit_codec::BitReader;
 use file_model::flac_fields::{
-    BLOCK_HEAD_BYTES, BLOCKS_AT, CHANNELS_AT, GREATEST_DEPTH, LEAST_DEPTH, MD5_AT, RATE_AT,
-    STREAMINFO_BYTES,
+    BLOCK_HEAD_BYTES, BLOCKS_AT, CHANNELS_AT, MD5_AT, RATE_AT, STREAMINFO_BYTES,
 };
 use file_model::{FlacRule, Info};
-use lib_base::{MOST_CHANNELS, SAMPLE_RATE};
+use lib_base::{GREATEST_DEPTH, LEAST_DEPTH, MOST_CHANNELS, SAMPLE_RATE};
 
 /// Where the content of STREAMINFO begins.
 pub(crate) const INFO_AT: usize = BLOCKS_AT + BLOCK_HEAD_BYTES;

@@ -1,11 +1,10 @@
 //! The gates of loudness, as steps over a count and a sum.
 ghost use Rattle.std.specs.Prelude.{◌≡◌, ◌≤◌, ◌<◌, ◌+◌, ◌*◌, ◌^◌, ◌&&◌, ◌++◌, ℕ, IsTrue, List, [], filter, length, nat_lt, All};
+ghost use Rattle.lib_base.specs.declared.limits.TheConstants.{BLOCK_SEGMENTS, GREATEST_ENERGY};
 ghost use Rattle.sound_model.specs.Loudness.{is_audible, is_near};
-ghost use Rattle.sound_model.specs.Segments.{greatest_energy};
 ghost use Rattle.gate_blocks.specs.Bounds.{AreBlocks, IsTallyOf};
 
-/// 10^7 times the square of full scale, 2^54, times 10^0.0691: the power that stands for 0 LUFS.
-pub(crate) const FULL_POWER: u128 = (1 << 54) * 11_724_653;
+use lib_base::FULL_POWER;
 
 /// How many blocks passed a gate, and the sum of their energies.
 ///
@@ -18,7 +17,7 @@ pub struct Tally {
     pub sum: u128,
     ghost few: { count ≤ 2 ^ 25 },
     ghost some_each: { count ≤ sum },
-    ghost within: { sum ≤ count * (4 * greatest_energy) },
+    ghost within: { sum ≤ count * (BLOCK_SEGMENTS * GREATEST_ENERGY) },
 }
 
 impl Tally {
@@ -31,7 +30,7 @@ impl Tally {
 
     /// Adds those of the blocks that are above the absolute threshold, -70 LUFS.
     pub fn add_audible(&mut self, blocks: &[u128])
-        requires within { All (λ z. z ≤ 4 * greatest_energy) blocks.now }
+        requires within { All (λ z. z ≤ BLOCK_SEGMENTS * GREATEST_ENERGY) blocks.now }
         requires room { self.old.count + length blocks.now ≤ 2 ^ 25 }
         ensures tally { (before : List ℕ) → IsTallyOf before self.old.count self.old.sum
             → IsTallyOf (before ++ filter is_audible blocks.now) self.new.count self.new.sum }
@@ -43,7 +42,7 @@ impl Tally {
     /// Adds those of the blocks that pass both gates: above the absolute threshold, and above the
     /// relative one, which is the mean of the blocks that `audible` counts less 10 LU.
     pub fn add_near(&mut self, blocks: &[u128], audible: Tally)
-        requires within { All (λ z. z ≤ 4 * greatest_energy) blocks.now }
+        requires within { All (λ z. z ≤ BLOCK_SEGMENTS * GREATEST_ENERGY) blocks.now }
         requires room { self.old.count + length blocks.now ≤ 2 ^ 25 }
         ensures tally { (counted before : List ℕ) → IsTallyOf counted audible.count audible.sum
             → IsTallyOf before self.old.count self.old.sum
@@ -67,7 +66,7 @@ fn both(one: Tally, other: Tally) -> Tally
     }
 }
 
-/// Tallies the blocks above -70 LUFS.
+/// Tallies the blocks above the absolute threshold, -70 LUFS.
 fn audible_of(blocks: &[u128]) -> Tally
     requires { AreBlocks blocks.now }
     ensures tally { IsTallyOf (filter is_audible blocks.now) result.count result.sum }
@@ -84,7 +83,8 @@ fn audible_of(blocks: &[u128]) -> Tally
     Tally { count, sum }
 }
 
-/// Tallies those of them that are above the mean of what `audible` counts, less 10 LU.
+/// Tallies those of them that are above the relative threshold, the mean of what `audible` counts
+/// less 10 LU.
 fn near_of(blocks: &[u128], audible: Tally) -> Tally
     requires { AreBlocks blocks.now }
     ensures tally { (counted : List ℕ) → IsTallyOf counted audible.count audible.sum
@@ -103,7 +103,7 @@ fn near_of(blocks: &[u128], audible: Tally) -> Tally
 }
 
 fn passes_both(energy: u128, audible: Tally) -> bool
-    requires { energy ≤ 4 * greatest_energy }
+    requires { energy ≤ BLOCK_SEGMENTS * GREATEST_ENERGY }
     ensures value { result ≡ (is_audible energy && nat_lt audible.sum (10 * audible.count * energy)) }
     ensures positive { IsTrue result → 0 < energy }
 {
@@ -111,7 +111,7 @@ fn passes_both(energy: u128, audible: Tally) -> bool
 }
 
 fn is_audible_block(energy: u128) -> bool
-    requires { energy ≤ 4 * greatest_energy }
+    requires { energy ≤ BLOCK_SEGMENTS * GREATEST_ENERGY }
     ensures value { result ≡ is_audible energy }
     ensures positive { IsTrue result → 0 < energy }
 {

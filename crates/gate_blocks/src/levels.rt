@@ -1,11 +1,12 @@
 //! Loudness of blocks and windows.
 ghost use Rattle.std.specs.Prelude.{◌≤◌, ◌<◌, ◌*◌, ℕ, List, unsigned_abs, IfSome};
+ghost use Rattle.lib_base.specs.declared.limits.TheConstants.{BLOCK_SEGMENTS, GREATEST_ENERGY, WINDOW_SEGMENTS};
 ghost use Rattle.sound_model.specs.Loudness.{IsLoudness, IfThere, IsBlockLevel, IsWindowLevel, above_zero, mean};
-ghost use Rattle.sound_model.specs.Segments.{greatest_energy};
 ghost use Rattle.gate_blocks.specs.Bounds.{AreBlocks, IsTallyOf};
 
-use crate::gates::{FULL_POWER, Tally};
+use crate::gates::Tally;
 use db_table::{hundredths, level};
+use lib_base::FULL_POWER;
 
 /// The loudness of blocks, in hundredths of LUFS: that of the mean of those that pass both gates,
 /// absent exactly where none does. It takes no memory.
@@ -35,7 +36,7 @@ pub fn tally_level(tally: Tally) -> Option<i32>
 
 /// The loudness of one block's energy, in hundredths of LUFS, absent exactly where the energy is 0.
 pub fn block_level(energy: u128) -> Option<i32>
-    requires { energy ≤ 4 * greatest_energy }
+    requires { energy ≤ BLOCK_SEGMENTS * GREATEST_ENERGY }
     ensures value { IfThere IsBlockLevel (above_zero energy) result }
     ensures small { IfSome result (λ v. unsigned_abs v ≤ 28000) }
 {
@@ -47,7 +48,7 @@ pub fn block_level(energy: u128) -> Option<i32>
 
 /// The loudness of one window's energy, in hundredths of LUFS, absent exactly where the energy is 0.
 pub fn window_level(energy: u128) -> Option<i32>
-    requires { energy ≤ 30 * greatest_energy }
+    requires { energy ≤ WINDOW_SEGMENTS * GREATEST_ENERGY }
     ensures value { IfThere IsWindowLevel (above_zero energy) result }
     ensures small { IfSome result (λ v. unsigned_abs v ≤ 28000) }
 {
@@ -59,7 +60,7 @@ pub fn window_level(energy: u128) -> Option<i32>
 
 fn level_of_block(energy: u128) -> i32
     requires some { 0 < energy }
-    requires within { energy ≤ 4 * greatest_energy }
+    requires within { energy ≤ BLOCK_SEGMENTS * GREATEST_ENERGY }
     ensures value { IsBlockLevel energy result }
     ensures small { unsigned_abs result ≤ 28000 }
 {

@@ -3,14 +3,11 @@ ghost use Rattle.std.specs.Prelude.{◌≡◌, ◌≤◌, ◌<◌, ◌+◌, ◌*
 ghost use Rattle.gate_blocks.specs.Bounds.{AreOfChannel, IsWeighted};
 ghost use Rattle.sound_model.specs.Segments.{segments_of, square};
 
-use lib_base::{Energies, Memory};
+use lib_base::{Energies, Memory, SEGMENT_FRAMES};
 use std::alloc::Global;
 use std::marker::Model;
 
-/// How many values a segment has: 0.1 s at 48,000 Hz (BS.1770-4 Annex 1).
-const SEGMENT: usize = 4800;
-
-/// Sums the squares of the weighted values of one channel, over each whole segment of 4,800.
+/// Sums the squares of the weighted values of one channel, over each whole segment.
 #[derive(Debug, Drop)]
 pub struct SegmentMeter {
     energies: Vec<u128>,
@@ -21,6 +18,7 @@ pub struct SegmentMeter {
 
 impl Model for SegmentMeter {
     ghost use Rattle.std.specs.Prelude.{◌≡◌, ◌≤◌, ◌<◌, ◌+◌, ◌*◌, ◌/◌, ◌^◌, length, vec_capacity};
+    ghost use Rattle.lib_base.specs.declared.limits.TheConstants.{SEGMENT_FRAMES};
     ghost use Rattle.gate_blocks.specs.Bounds.{AreOfChannel};
     ghost use Rattle.gate_blocks.specs.Meters.{Meter};
 
@@ -28,14 +26,14 @@ impl Model for SegmentMeter {
 
     ghost view = { λ m. record {
       frames = m.frames;
-      count = 4800 * length m.energies.items + m.taken;
+      count = SEGMENT_FRAMES * length m.energies.items + m.taken;
       energies = m.energies.items;
       after = m.after;
     } };
 
-    ghost invariant = { λ m. (m.frames / 4800 ≤ vec_capacity m.energies)
-        × (4800 * length m.energies.items + m.taken ≤ m.frames)
-        × (m.taken < 4800) × (m.after ≤ m.taken * 2 ^ 60) × AreOfChannel m.energies.items };
+    ghost invariant = { λ m. (m.frames / SEGMENT_FRAMES ≤ vec_capacity m.energies)
+        × (SEGMENT_FRAMES * length m.energies.items + m.taken ≤ m.frames)
+        × (m.taken < SEGMENT_FRAMES) × (m.after ≤ m.taken * 2 ^ 60) × AreOfChannel m.energies.items };
 }
 
 impl SegmentMeter {
@@ -46,7 +44,7 @@ impl SegmentMeter {
         ensures fed { IfOk result (λ meter. WasFed meter []) }
         ensures frames { IfOk result (λ meter. meter.frames ≡ frames) }
     {
-        let energies = Vec::with_capacity(alloc, frames as usize / SEGMENT)?;
+        let energies = Vec::with_capacity(alloc, frames as usize / SEGMENT_FRAMES)?;
         Ok(SegmentMeter {
             energies,
             after: 0,
@@ -66,7 +64,7 @@ impl SegmentMeter {
     {
         let mut rest = filtered;
         while !rest.is_empty() {
-            let count = rest.len().min(SEGMENT - self.taken);
+            let count = rest.len().min(SEGMENT_FRAMES - self.taken);
             let (piece, later) = rest.split_at(count);
             self.take_piece(piece);
             rest = later;
@@ -76,7 +74,7 @@ impl SegmentMeter {
     /// Takes values that lie in one segment.
     fn take_piece(&mut self, piece: &[i32])
         requires room { self.old.count + length piece.now ≤ self.old.frames }
-        requires one_segment { self.old.count % 4800 + length piece.now ≤ 4800 }
+        requires one_segment { self.old.count % SEGMENT_FRAMES + length piece.now ≤ SEGMENT_FRAMES }
         requires within { All IsWeighted piece.now }
         ensures fed { (xs : List ℤ) → WasFed self.old xs → WasFed self.new (xs ++ piece.now) }
         ensures count { self.new.count ≡ self.old.count + length piece.now }
@@ -84,7 +82,7 @@ impl SegmentMeter {
     {
         self.after += squares_of(piece);
         self.taken += piece.len();
-        if self.taken == SEGMENT {
+        if self.taken == SEGMENT_FRAMES {
             append(&mut self.energies, self.after);
             self.after = 0;
             self.taken = 0;
@@ -121,7 +119,7 @@ fn append(energies: &mut Vec<u128>, energy: u128)
 
 /// The sum of the squares of values of at most one segment.
 fn squares_of(piece: &[i32]) -> u128
-    requires few { length piece.now ≤ 4800 }
+    requires few { length piece.now ≤ SEGMENT_FRAMES }
     requires within { All IsWeighted piece.now }
     ensures value { result ≡ sum_by square piece.now }
     ensures bound { result ≤ length piece.now * 2 ^ 60 }

@@ -1,13 +1,14 @@
 //! Channels added by their weights.
 ghost use Rattle.std.specs.Prelude.{◌≡◌, ◌≤◌, ◌<◌, ◌+◌, ◌*◌, length, slice_index, EachIndex};
-ghost use Rattle.sound_model.specs.Segments.{weights, greatest_energy};
+ghost use Rattle.lib_base.specs.declared.limits.TheConstants.{GREATEST_ENERGY, MOST_CHANNELS};
+ghost use Rattle.sound_model.specs.Segments.{weights};
 
 /// The weight of a channel, in hundredths: none for low frequencies, 1.41 for a channel at the back
 /// (BS.1770-4 Annex 1 table 3). The channels stand in their order in a file: left, right, center,
 /// low frequencies, and those at the back last.
 pub fn weight(channels: usize, channel: usize) -> u128
     requires some { 1 ≤ channels }
-    requires six { channels ≤ 6 }
+    requires six { channels ≤ MOST_CHANNELS }
     requires channel { channel < channels }
     ensures { result ≡ slice_index (weights channels) channel }
 {
@@ -22,7 +23,7 @@ pub fn weight(channels: usize, channel: usize) -> u128
 pub fn add_weighted(total: &mut [u128], one: &[u128], weight: u128)
     requires lengths { length total.old ≡ length one.now }
     requires within { EachIndex total.old (λ j.
-        slice_index total.old j + weight * slice_index one.now j ≤ greatest_energy) }
+        slice_index total.old j + weight * slice_index one.now j ≤ GREATEST_ENERGY) }
     ensures sums { EachIndex total.old (λ j.
         slice_index total.new j ≡ slice_index total.old j + weight * slice_index one.now j) }
 {

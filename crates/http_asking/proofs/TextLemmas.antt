@@ -1,43 +1,20 @@
--- What is no UTF-8 is no token and no name.
-use Rattle.std.proofs.Common.{◌≡◌, ◌<◌, ℕ, zero, suc, Bool, true, false, ◌&&◌, List, [], ◌∷◌, None, Some, if◌then◌else◌, refl, arith}
+-- What is no UTF-8 is no name, and a token is found where one is given.
+use Rattle.std.proofs.Common.{◌≡◌, ℕ, Bool, true, false, ◌&&◌, List, Option, None, Some, if◌then◌else◌, option_map, refl, ap}
 use Rattle.std.specs.Prelude.{IsUtf8, length, nat_le}
 use Rattle.std.specs.List.{list_all}
-use Rattle.std.specs.Str.{is_utf8, IsAscii}
-use Rattle.std.proofs.lemmas.Bool.Decides.{nat_tests}
-use Rattle.std.proofs.lemmas.Str.{IsUtf8-from_is_utf8, IsUtf8-from_ascii}
-use Rattle.library_model.specs.declared.limits.TheConstants.{MOST_NAME_BYTES, MOST_TOKEN_BYTES}
+use Rattle.std.specs.Str.{is_utf8}
+use Rattle.std.proofs.lemmas.Str.{IsUtf8-from_is_utf8}
+use Rattle.library_model.specs.declared.limits.TheConstants.{MOST_NAME_BYTES}
 use Rattle.library_model.specs.Named.{if_name}
-use Rattle.library_model.specs.Names.{is_name, is_shown, is_token, is_token_byte}
+use Rattle.library_model.specs.Names.{is_name, is_shown}
+use Rattle.kept_replies.specs.Tokens.{TokenAs, text_of}
+use Rattle.kept_replies.specs.declared.tokens.Token.{Token}
 use Rattle.http_model.specs.Asking.{if_token}
 
 -- both of two tests pass
 both : (a b : Bool) → (a && b) ≡ true → (a ≡ true) × (b ≡ true)
 both true b is = (refl, is)
 both false b is = absurd (cc is)
-
--- A byte of a token is ASCII.
-below : (byte : ℕ) → is_token_byte byte ≡ true → byte < 128
-below byte is = grind (arith, nat_tests, is)
-
--- So are the bytes of a token.
-bytes-IsAscii : (text : List ℕ) → list_all is_token_byte text ≡ true → IsAscii text
-bytes-IsAscii [] is i = omega arith
-bytes-IsAscii (c ∷ cs) is zero = below c (both (is_token_byte c) (list_all is_token_byte cs) is).0
-bytes-IsAscii (c ∷ cs) is (suc i) = bytes-IsAscii cs (both (is_token_byte c) (list_all is_token_byte cs) is).1 i
-
--- A token is UTF-8.
-token-IsUtf8 : (text : List ℕ) → is_token text ≡ true → IsUtf8 text
-token-IsUtf8 text is =
-    IsUtf8-from_ascii text (bytes-IsAscii text
-    (both (nat_le 1 (length text) && nat_le (length text) MOST_TOKEN_BYTES) (list_all is_token_byte text) is).1)
-
-token_by_test : (text : List ℕ) (test : Bool) → is_token text ≡ test → ¬ (IsUtf8 text) → (if test then Some text else None) ≡ None
-token_by_test text true is other = absurd (other (token-IsUtf8 text is))
-token_by_test text false is other = refl
-
--- What is no UTF-8 is no token.
-pub if_token-other : (text : List ℕ) → ¬ (IsUtf8 text) → if_token text ≡ None
-if_token-other text other = token_by_test text (is_token text) refl other
 
 name_by_test : (text : List ℕ) (test : Bool) → is_name text ≡ test → ¬ (IsUtf8 text) → (if test then Some text else None) ≡ None
 name_by_test text true is other = absurd (other (IsUtf8-from_is_utf8 text (both (is_utf8 text) (nat_le (length text) MOST_NAME_BYTES && list_all is_shown text) is).0))
@@ -46,3 +23,8 @@ name_by_test text false is other = refl
 -- What is no UTF-8 is no name.
 pub if_name-other : (text : List ℕ) → ¬ (IsUtf8 text) → if_name text ≡ None
 if_name-other text other = name_by_test text (is_name text) refl other
+
+-- The token of bytes is what they give as one.
+pub if_token-of : (text : List ℕ) (found : Option Token) → TokenAs text found → option_map text_of found ≡ if_token text
+if_token-of text None not_one = rw not_one refl
+if_token-of text (Some token) is = rw is.0 (ap Some is.1)

@@ -2,12 +2,14 @@
 ghost use Rattle.std.specs.Prelude.{◌≡◌, ℕ, List, IfOk, length, option_map};
 ghost use Rattle.library_model.specs.Named.{if_name};
 ghost use Rattle.http_inbox.specs.Heads.{IsFieldSpan};
+ghost use Rattle.kept_replies.specs.Tokens.{text_of};
 ghost use Rattle.http_model.specs.Asking.{if_token, name_given, name_marked, token_in};
 ghost use Rattle.http_asking.specs.Fields.{IsField, IsFieldWithin};
 
 use http_inbox::FieldSpan;
+use kept_replies::Token;
 use lib_base::{Memory, Text};
-use row_rules::{is_name, is_token};
+use row_rules::is_name;
 use std::alloc::Global;
 
 /// What the header lines of a name give.
@@ -34,29 +36,20 @@ pub fn field_of(bytes: &[u8], span: FieldSpan) -> Field<'_>
 }
 
 /// The token that the lines `Request-Token` give: the value of the only one, where it is a token.
-pub fn token_asked(token: Field<'_>) -> Option<&str>
-    ensures { (values : List (List ℕ)) → IsField token.entry values
-        → option_map (λ token. token.now) result ≡ token_in values }
+pub fn token_asked(alloc: Global, token: Field<'_>) -> Result<Option<Token>, Memory>
+    ensures { IfOk result (λ given. (values : List (List ℕ)) → IsField token.entry values
+        → option_map text_of given ≡ token_in values) }
 {
     match token {
-        Field::Value(text) => token_of(text),
-        Field::Absent | Field::Repeated => None,
+        Field::Value(text) => token_of(alloc, text),
+        Field::Repeated | Field::Absent => Ok(None),
     }
 }
 
-fn token_of(text: &[u8]) -> Option<&str>
-    ensures { option_map (λ token. token.now) result ≡ if_token text.now }
+fn token_of(alloc: Global, text: &[u8]) -> Result<Option<Token>, Memory>
+    ensures { IfOk result (λ token. option_map text_of token ≡ if_token text.now) }
 {
-    match str::from_utf8(text) {
-        Ok(token) => if_token(token),
-        Err(_) => None,
-    }
-}
-
-fn if_token(text: &str) -> Option<&str>
-    ensures { option_map (λ token. token.now) result ≡ if_token text.now }
-{
-    if is_token(text) { Some(text) } else { None }
+    Token::of(alloc, text)
 }
 
 /// What the lines `Recording-Name` give to the mark: the value of the only one, whatever it is, and

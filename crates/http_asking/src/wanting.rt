@@ -6,21 +6,24 @@ ghost use Rattle.library_model.specs.Named.{name_in, album_in};
 ghost use Rattle.http_model.specs.Asking as model;
 ghost use Rattle.http_model.specs.Refusals as refusals;
 ghost use Rattle.http_model.specs.declared.refusals.AskingRefusal.TheVariants as cause;
-ghost use Rattle.http_model.specs.declared.wishes.Command.TheVariants as command;
-ghost use Rattle.http_asking.specs.Asked.{HasHeading};
+ghost use Rattle.library_model.specs.Asked as asked;
+ghost use Rattle.library_model.specs.Stands.{IsWithinLimit, WantsWithin};
+ghost use Rattle.library_model.specs.declared.messages.Command.TheVariants as command;
+ghost use Rattle.http_asking.specs.Asked.{HasHeading, wanted_said};
 ghost use Rattle.http_asking.specs.Fields.{IsField};
 
 use crate::fields::{Field, field_of, name_asked};
+use crate::wants::Wanted;
 use http_inbox::Heading;
-use http_model::{AskingRefusal, Command, Wanted};
+use http_model::AskingRefusal;
 use http_routes::Resource;
 use json_bodies::{read_album, read_name};
 use lib_base::{Bytes, Memory};
-use library_model::{BodyKind, Reply};
+use library_model::{BodyKind, Command, Reply};
 use std::alloc::Global;
 
 /// The reply to what is refused for that cause.
-pub fn refuse(alloc: Global, cause: AskingRefusal) -> Result<Reply, Memory>
+pub(crate) fn refuse(alloc: Global, cause: AskingRefusal) -> Result<Reply, Memory>
     ensures { IfOk result (λ reply. reply ≡ refusals.asking_refusal cause) }
 {
     let word = cause.word();
@@ -42,8 +45,9 @@ pub fn wanted(
     body: Bytes,
 ) -> Result<Wanted, Memory>
     requires { HasHeading bytes.now heading.now }
-    ensures { IfOk result (λ wanted. (head : RequestHead) → IsHeadingOf bytes.now heading.now head
-        → wanted ≡ model.wanted_at resource (model.name_values head) body) }
+    ensures says { IfOk result (λ wanted. (head : RequestHead) → IsHeadingOf bytes.now heading.now head
+        → wanted_said wanted ≡ model.wanted_at resource (model.name_values head) body) }
+    ensures within { IfOk result (λ wanted. IsWithinLimit body → WantsWithin (wanted_said wanted)) }
 {
     wanted_at(alloc, resource, field_of(bytes, heading.name), body)
 }
@@ -56,7 +60,7 @@ fn wanted_at(
     body: Bytes,
 ) -> Result<Wanted, Memory>
     ensures { IfOk result (λ wanted. (values : List (List ℕ)) → IsField name.entry values
-        → wanted ≡ model.wanted_at resource values body) }
+        → wanted_said wanted ≡ model.wanted_at resource values body) }
 {
     match resource {
         Resource::Albums => new_album(alloc, &body),
@@ -67,14 +71,16 @@ fn wanted_at(
             bytes: body,
         })),
         Resource::RecordingAlbum(recording) => regroup(alloc, recording, &body),
-        Resource::Recording(recording) => Ok(Wanted::Command(Command::RemoveRecording(recording))),
-        Resource::Album(album) => Ok(Wanted::Command(Command::RemoveAlbum(album))),
+        Resource::Recording(recording) => Ok(Wanted::Command(Command::RemoveRecording {
+            recording,
+        })),
+        Resource::Album(album) => Ok(Wanted::Command(Command::RemoveAlbum { album })),
     }
 }
 
 /// A new album of the name that the body gives.
 fn new_album(alloc: Global, body: &Bytes) -> Result<Wanted, Memory>
-    ensures { IfOk result (λ wanted. wanted
+    ensures { IfOk result (λ wanted. wanted_said wanted
         ≡ model.or_malformed cause.Body (option_map command.NewAlbum (name_in body.now))) }
 {
     match read_name(alloc, body.as_slice())? {
@@ -85,7 +91,7 @@ fn new_album(alloc: Global, body: &Bytes) -> Result<Wanted, Memory>
 
 /// A recording into the album that the body chooses, or into none.
 fn regroup(alloc: Global, recording: u32, body: &Bytes) -> Result<Wanted, Memory>
-    ensures { IfOk result (λ wanted. wanted
+    ensures { IfOk result (λ wanted. wanted_said wanted
         ≡ model.or_malformed cause.Body (option_map (command.Regroup recording) (album_in body.now))) }
 {
     match read_album(alloc, body.as_slice())? {
@@ -102,7 +108,7 @@ fn import(
     bytes: Bytes,
 ) -> Result<Wanted, Memory>
     ensures { IfOk result (λ wanted. (values : List (List ℕ)) → IsField name.entry values
-        → wanted ≡ model.import_wanted album values bytes) }
+        → wanted_said wanted ≡ model.import_wanted album values bytes) }
 {
     match name_asked(alloc, name)? {
         Some(name) => Ok(Wanted::Command(Command::Import { album, name, bytes })),
@@ -111,7 +117,7 @@ fn import(
 }
 
 fn malformed(alloc: Global, cause: AskingRefusal) -> Result<Wanted, Memory>
-    ensures { IfOk result (λ wanted. wanted ≡ model.or_malformed cause None) }
+    ensures { IfOk result (λ wanted. wanted_said wanted ≡ model.or_malformed cause None) }
 {
     Ok(Wanted::Malformed(refuse(alloc, cause)?))
 }

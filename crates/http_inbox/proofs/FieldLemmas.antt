@@ -8,7 +8,7 @@ use Rattle.std.proofs.lemmas.Slice.Eq.{bytes_eq-Decides}
 use Rattle.httparse.specs.declared.spans.HeaderSpan.{HeaderSpan}
 use Rattle.httparse.specs.declared.spans.Span.{Span}
 use Rattle.httparse.specs.Spans.{IsWithin, header_bytes, span_bytes}
-use Rattle.http_model.specs.Framing.{is_named, values_of}
+use Rattle.http_model.specs.Fields.{is_named, values_of}
 
 -- The test that the code makes is the name's.
 pub is_named-tested : (result : Bool) (bytes name : List ℕ)

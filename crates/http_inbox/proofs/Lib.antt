@@ -1,4 +1,5 @@
 pub mod BodyLemmas
+pub mod CoversLaws
 pub mod ExtentLemmas
 pub mod FieldLemmas
 pub mod FillLemmas

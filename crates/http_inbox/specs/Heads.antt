@@ -4,7 +4,7 @@ use Rattle.std.specs.List.{list_any}
 use Rattle.httparse.specs.declared.spans.HeaderSpan.{HeaderSpan}
 use Rattle.httparse.specs.Grammar.{RequestHead, HasNoRequest}
 use Rattle.httparse.specs.Spans.{IsRequestWithin, IsRequestOf, IsWithin, RequestOverflows, name_and_value, span_bytes}
-use Rattle.http_model.specs.Framing.{is_named, values_of}
+use Rattle.http_model.specs.Fields.{is_named, values_of}
 use Rattle.http_model.specs.Requests.{HeadAt, HasNoHead, head_limit}
 use Rattle.http_inbox.specs.declared.heads.FieldSpan.{FieldSpan}
 use Rattle.http_inbox.specs.declared.heads.FieldSpan.TheVariants.{Absent, Value, Repeated}

@@ -9,7 +9,8 @@ use Rattle.http_inbox.specs.Heads.{IsHeadingOf}
 use Rattle.http_inbox.specs.declared.inbox.HeadRead.{HeadRead}
 use Rattle.http_inbox.specs.declared.inbox.HeadRead.TheVariants.{Ended, Head, NoHead, Fault}
 
--- That is so of the bytes however they go on, or the source is at its end and it is so of them as they are.
+-- P holds of all bytes that begin with those that were taken; or the source is at its end, and P holds of those that were taken. So P holds
+-- of all that the source had, whether it tells that or not.
 abbrev pub Covers : Option (List ℕ) → List ℕ → (List ℕ → Type 0) → Type 0
 Covers left taken P = (IsAtEnd left × P taken) ⊎ ((more : List ℕ) → P (taken ++ more))
 

@@ -5,12 +5,17 @@ use Rattle.httparse.specs.Grammar.{RequestHead}
 use Rattle.lib_base.specs.Faults.{CountsFault}
 use Rattle.lib_base.specs.Sources.{SourceView}
 use Rattle.http_model.specs.declared.refusals.FramingRefusal.TheVariants.{Frame}
+use Rattle.http_model.specs.Requests as model
 use Rattle.http_model.specs.Requests.{Frames, IsUnframeable}
 use Rattle.http_inbox.specs.Heads.{IsHeadingOf}
 use Rattle.http_inbox.specs.Inboxes.{Covers}
 use Rattle.http_inbox.specs.declared.requests.Request.{Request}
 use Rattle.http_inbox.specs.declared.requests.Next.{Next}
 use Rattle.http_inbox.specs.declared.requests.Next.TheVariants.{Ended, Framed, Refused, Fault, Memory}
+
+-- the framed request of that head
+abbrev pub framed : RequestHead → Request → model.Framed
+framed head request = record { head = head; body = request.body }
 
 -- what an inbox holds behind a request that begins there
 abbrev pub behind : List ℕ → Request → List ℕ
@@ -22,7 +27,7 @@ pub record BeginsWith (bytes inbox : List ℕ) (request : Request) : Type 0 wher
   pub head : RequestHead
   pub lies : IsHeadingOf inbox request.heading head
   pub frames : (more : List ℕ)
-      → Frames (bytes ++ more) (record { head = head; body = request.body }) (behind inbox request ++ more)
+      → Frames (bytes ++ more) (framed head request) (behind inbox request ++ more)
 
 -- What is found of these bytes, of which the inbox holds the front. A fault comes where they are none, or can't be framed as
 -- they are. Want of memory leaves them all in the inbox.

@@ -2,7 +2,7 @@
 ghost use Rattle.std.specs.Prelude.{◌≡◌, ◌≢◌, ◌≤◌, ◌<◌, ◌==◌, ◌&&◌, ◌||◌, length, take, map, codes, All, []};
 ghost use Rattle.std.specs.List.{list_any};
 ghost use Rattle.httparse.specs.Spans.{IsRequestWithin, IsHeaderWithin, IsWithin, header_bytes, span_bytes};
-ghost use Rattle.http_model.specs.Framing.{is_named, values_of};
+ghost use Rattle.http_model.specs.Fields.{is_named, values_of};
 ghost use Rattle.http_model.specs.Requests.{head_limit, field_limit, HasNoHead};
 ghost use Rattle.http_inbox.specs.Heads.{IsFieldSpan, GivesFields, IsParsed, Looks};
 

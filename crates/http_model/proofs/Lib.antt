@@ -1,8 +1,9 @@
+pub mod AskingLaws
+pub mod ExchangeLaws
 pub mod Readings
 pub mod RequestLaws
-pub mod Runs
-pub mod SpellingLaws
+pub mod RunLaws
 pub mod WorkedAsking
-pub mod WorkedFraming
 pub mod WorkedRequests
 pub mod WorkedSpelling
+pub mod AskingStatuses

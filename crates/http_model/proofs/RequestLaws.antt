@@ -2,11 +2,11 @@
 use Rattle.std.proofs.Common.{◌≡◌, ◌≢◌, ◌≤◌, ◌<◌, ℕ, suc, zero, ◌+◌, true, false, inl, inr, List, [], ◌∷◌, ◌++◌, length, take, drop, refl, sym, ap, ◌∙◌, subst, arith, append_assoc, length-append}
 use Rattle.std.proofs.Math.Seq.{take-append_seam}
 use Rattle.std.proofs.lemmas.List.{take-append-drop, take-append-le}
-use Rattle.httparse.specs.Grammar.{RequestHead, ReadsRequest, print_request}
+use Rattle.httparse.specs.Grammar.{RequestHead, print_request}
 use Rattle.httparse.proofs.GrammarLemmas.{request_unique, ReadsRequest-append}
 use Rattle.http_model.specs.declared.refusals.FramingRefusal.{FramingRefusal}
-use Rattle.http_model.specs.declared.refusals.FramingRefusal.TheVariants.{Frame}
-use Rattle.http_model.specs.Requests.{Framed, HeadAt, HasNoHead, Extent, refused, long, extent, Frames, IsRefused, IsCut, IsUnframeable, closes, End, ended, unframeable, turns, LeavesAt, StopsAt, RequestsOf, head_limit}
+use Rattle.http_model.specs.Refusals.{framing_refusal}
+use Rattle.http_model.specs.Requests.{Framed, HeadAt, HasNoHead, refused, long, extent, Frames, IsRefused, IsCut, IsUnframeable, closes, End, unframeable, LeavesAt, StopsAt, RequestsOf, head_limit}
 use Rattle.http_model.proofs.Readings.{append-split, ReadsRequest-shorter}
 
 -- ---- heads
@@ -165,15 +165,15 @@ StopsAt-unique : (bytes : List ℕ) (e f : End) → StopsAt bytes e → StopsAt 
 StopsAt-unique bytes e f (inl x) (inl y) = x.1 ∙ sym y.1
 StopsAt-unique bytes e f (inl x) (inr y) = absurd (IsUnframeable-some bytes y.0 y.1 x.0)
 StopsAt-unique bytes e f (inr x) (inl y) = absurd (IsUnframeable-some bytes x.0 x.1 y.0)
-StopsAt-unique bytes e f (inr x) (inr y) = x.2 ∙ ap unframeable (IsUnframeable-unique bytes x.0 y.0 x.1 y.1) ∙ sym y.2
+StopsAt-unique bytes e f (inr x) (inr y) = x.2 ∙ ap (λ (cause : FramingRefusal). unframeable (framing_refusal cause)) (IsUnframeable-unique bytes x.0 y.0 x.1 y.1) ∙ sym y.2
 
--- a request begins no bytes that stop
-StopsAt-no_request : (bytes : List ℕ) (e : End) (q : Framed) (rest : List ℕ) → StopsAt bytes e → ¬ Frames bytes q rest
+-- A request begins no bytes that stop.
+pub StopsAt-no_request : (bytes : List ℕ) (e : End) (q : Framed) (rest : List ℕ) → StopsAt bytes e → ¬ Frames bytes q rest
 StopsAt-no_request bytes e q rest (inl x) frames = Frames-some bytes q rest frames x.0
 StopsAt-no_request bytes e q rest (inr x) frames = Frames-framed bytes q rest x.0 frames x.1
 
--- the request that begins the bytes closes, or it does not
-not_both : (bytes : List ℕ) (q p : Framed) (r t : List ℕ) → Frames bytes q r → Frames bytes p t → closes q.head ≡ true → ¬ (closes p.head ≡ false)
+-- The request that begins the bytes closes, or it does not.
+pub not_both : (bytes : List ℕ) (q p : Framed) (r t : List ℕ) → Frames bytes q r → Frames bytes p t → closes q.head ≡ true → ¬ (closes p.head ≡ false)
 not_both bytes q p r t x y shut stays =
     let same = Frames-unique bytes q p r t x y in
     let is : true ≡ false = sym shut ∙ ap (λ (a : Framed). closes a.head) same.0 ∙ stays in

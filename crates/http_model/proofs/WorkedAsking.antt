@@ -7,14 +7,15 @@ use Rattle.httparse.specs.Grammar.{Field, crlf}
 use Rattle.matchit.proofs.OnLiterals.{matchit_on_literals}
 use Rattle.md5.specs.Md5.{block_words, rounds, compress, hash_after, digest_bytes, md5}
 use Rattle.serde_json.proofs.OnLiterals.{serde_json_on_literals}
+use Rattle.library_model.specs.declared.messages.Command.TheVariants.{NewAlbum, Import, Retake, Regroup, RemoveRecording, RemoveAlbum}
+use Rattle.library_model.specs.declared.messages.Question.TheVariants as about
+use Rattle.library_model.specs.Asked.{change, command, malformed, question, refused}
+use Rattle.library_model.specs.declared.refusals.Refusal.TheVariants.{Memory}
+use Rattle.library_model.specs.Replies.{refusal}
 use Rattle.http_routes.specs.declared.resources.Resource.TheVariants as at
-use Rattle.http_routes.specs.Ids.{is_id}
 use Rattle.http_model.specs.declared.refusals.AskingRefusal.TheVariants.{NoRoute, Method, Token, Name, Body}
-use Rattle.http_model.specs.declared.wishes.Command.TheVariants.{NewAlbum, Import, Retake, Regroup, RemoveRecording, RemoveAlbum}
-use Rattle.http_model.specs.declared.wishes.Question.TheVariants as about
-use Rattle.http_model.specs.declared.wishes.Wanted.TheVariants as wanted
-use Rattle.http_model.specs.Asking.{refused, question, change, allows_of, asked_of, mark_of, name_given, token_in, wanted_at}
-use Rattle.http_model.specs.Framing as given
+use Rattle.http_model.specs.Asking.{allows_of, asked_of, mark_of, name_given, token_in, wanted_at}
+use Rattle.http_model.specs.Exchanges.{allows_in}
 use Rattle.http_model.specs.Refusals.{asking_refusal}
 use Rattle.http_model.specs.Requests.{Framed}
 
@@ -33,12 +34,6 @@ field name raw = record { name = name; raw = raw; end = crlf }
 -- the token `t`
 abbrev token : Field
 token = field (codes "request-token") (codes " t")
-
--- ---- ids
-
--- An id of a target is a number that is given.
-pub is_id-given : (text : List ℕ) → is_id text ≡ given.is_id text
-is_id-given text = refl
 
 -- ---- places 2 and 3
 
@@ -61,6 +56,13 @@ pub allows_of-none : allows_of (row (codes "GET") (codes "/recordings/1") [] [])
 unfolding matchit_on_literals is_utf8 chars encode_utf8
 allows_of-none = refl
 
+-- Only a reply of 405 names them.
+pub allows_in-each : allows_in (row (codes "HEAD") (codes "/recordings/1") [] []) (asking_refusal Method)
+    ∷ allows_in (row (codes "HEAD") (codes "/recordings/1") [] []) (refusal Memory) ∷ []
+    ≡ (codes "GET" ∷ codes "DELETE" ∷ []) ∷ [] ∷ []
+unfolding matchit_on_literals is_utf8 chars encode_utf8
+allows_in-each = refl
+
 -- A question needs no token.
 pub asked_of-question : asked_of (row (codes "GET") (codes "/albums/12") [] []) ≡ question (about.Album 12)
 unfolding matchit_on_literals is_utf8 chars encode_utf8
@@ -80,40 +82,40 @@ token_in-each = refl
 
 -- A recording's removal, under its token.
 pub asked_of-removal : asked_of (row (codes "DELETE") (codes "/recordings/7") (token ∷ []) [])
-    ≡ change (codes "t") (mark_of (codes "DELETE") (codes "/recordings/7") [] []) (wanted.Command (RemoveRecording 7))
+    ≡ change (codes "t") (mark_of (codes "DELETE") (codes "/recordings/7") [] []) (command (RemoveRecording 7))
 unfolding matchit_on_literals httparse_on_literals is_utf8 chars encode_utf8
 asked_of-removal = refl
 
 -- An import into an album, under a name.
 pub asked_of-import : asked_of (row (codes "POST") (codes "/albums/3/recordings") (token ∷ field (codes "Recording-Name") (codes "A") ∷ []) (1 ∷ []))
-    ≡ change (codes "t") (mark_of (codes "POST") (codes "/albums/3/recordings") (codes "A") (1 ∷ [])) (wanted.Command (Import (Some 3) (codes "A") (1 ∷ [])))
+    ≡ change (codes "t") (mark_of (codes "POST") (codes "/albums/3/recordings") (codes "A") (1 ∷ [])) (command (Import (Some 3) (codes "A") (1 ∷ [])))
 unfolding matchit_on_literals httparse_on_literals is_utf8 chars encode_utf8
 asked_of-import = refl
 
 -- A body that chooses no album, under its token.
 pub asked_of-body : asked_of (row (codes "PUT") (codes "/recordings/7/album") (token ∷ []) (codes "{}"))
-    ≡ change (codes "t") (mark_of (codes "PUT") (codes "/recordings/7/album") [] (codes "{}")) (wanted.Malformed (asking_refusal Body))
+    ≡ change (codes "t") (mark_of (codes "PUT") (codes "/recordings/7/album") [] (codes "{}")) (malformed (asking_refusal Body))
 unfolding matchit_on_literals httparse_on_literals serde_json_on_literals is_utf8 chars encode_utf8
 asked_of-body = refl
 
 -- What bodies and names say, row by row: a new album, another file, an album that is chosen, and none.
-pub wanted_at-albums : wanted_at at.Albums [] (codes "{\"name\":\"A\"}") ≡ wanted.Command (NewAlbum (codes "A"))
+pub wanted_at-albums : wanted_at at.Albums [] (codes "{\"name\":\"A\"}") ≡ command (NewAlbum (codes "A"))
 unfolding serde_json_on_literals is_utf8 chars encode_utf8
 wanted_at-albums = refl
 
-pub wanted_at-audio : wanted_at (at.Audio 7) [] (1 ∷ []) ≡ wanted.Command (Retake 7 (1 ∷ []))
+pub wanted_at-audio : wanted_at (at.Audio 7) [] (1 ∷ []) ≡ command (Retake 7 (1 ∷ []))
 wanted_at-audio = refl
 
 pub wanted_at-regroup : wanted_at (at.RecordingAlbum 7) [] (codes "{\"album\":3}") ∷ wanted_at (at.RecordingAlbum 7) [] (codes "{\"album\":null}") ∷ []
-    ≡ wanted.Command (Regroup 7 (Some 3)) ∷ wanted.Command (Regroup 7 None) ∷ []
+    ≡ command (Regroup 7 (Some 3)) ∷ command (Regroup 7 None) ∷ []
 unfolding serde_json_on_literals is_utf8 chars encode_utf8
 wanted_at-regroup = refl
 
 -- An album goes, whatever the body is. Two names refuse an import.
-pub wanted_at-album : wanted_at (at.Album 7) [] (codes "{") ≡ wanted.Command (RemoveAlbum 7)
+pub wanted_at-album : wanted_at (at.Album 7) [] (codes "{") ≡ command (RemoveAlbum 7)
 wanted_at-album = refl
 
-pub wanted_at-names : wanted_at at.Recordings (codes "A" ∷ codes "A" ∷ []) (1 ∷ []) ≡ wanted.Malformed (asking_refusal Name)
+pub wanted_at-names : wanted_at at.Recordings (codes "A" ∷ codes "A" ∷ []) (1 ∷ []) ≡ malformed (asking_refusal Name)
 wanted_at-names = refl
 
 -- No name is the empty one, and two are none.

@@ -1,10 +1,13 @@
 -- Worked rows: what follows a head, what asks to close, and the requests of whole inputs.
-use Rattle.std.proofs.Common.{◌≡◌, ◌≢◌, ℕ, true, false, List, [], ◌∷◌, ◌++◌, codes, refl, inl, inr, arith}
+use Rattle.std.proofs.Common.{◌≡◌, ℕ, true, false, List, [], ◌∷◌, ◌++◌, codes, refl, inl, inr, arith}
+use Rattle.std.proofs.lemmas.List.Elements.{All-from_recursion}
+use Rattle.std.proofs.lemmas.List.Sums.{AllPass-from_list_all}
+use Rattle.std.specs.Char.{encode_utf8}
 use Rattle.httparse.proofs.OnLiterals.{httparse_on_literals}
-use Rattle.httparse.specs.Grammar.{RequestHead, Field, crlf}
+use Rattle.httparse.specs.Grammar.{RequestHead, Field, IsField, ReadsRequest, crlf, is_token_byte, is_uri_byte, is_value_byte}
 use Rattle.http_model.specs.declared.refusals.FramingRefusal.TheVariants.{Frame, Length, Size}
-use Rattle.http_model.specs.Requests.{Framed, HeadAt, Frames, Extent, refused, long, extent, closes, ended, turns, RequestsOf, head_limit, field_limit, body_limit}
-use Rattle.http_model.proofs.WorkedFraming.{row_head, row_head-ReadsRequest}
+use Rattle.http_model.specs.Requests.{Frames, refused, long, extent, closes, ended, turns, IsFront, RequestsOf, head_limit, field_limit, body_limit}
+use Rattle.http_model.specs.Fields.{is_named}
 
 -- a head of that method and version, with these header lines
 abbrev row : List ℕ → ℕ → List Field → RequestHead
@@ -18,6 +21,16 @@ field name raw = record { name = name; raw = raw; end = crlf }
 -- a header line that gives a length
 abbrev size : List ℕ → Field
 size digits = field (codes "content-LENGTH") digits
+
+-- ---- header lines
+
+-- Names match whatever their case.
+pub is_named-case : is_named (codes "Content-Length") (codes "content-LENGTH") ≡ true
+is_named-case = refl
+
+-- Another name does not match.
+pub is_named-other : is_named (codes "Content-Length") (codes "Content-Type") ≡ false
+is_named-other = refl
 
 -- ---- lengths
 
@@ -100,6 +113,40 @@ closes-list = refl
 
 -- ---- whole inputs
 
+-- The head of an import of three bytes.
+abbrev pub row_head : RequestHead
+row_head = record {
+  blank = [];
+  method = codes "POST";
+  target = codes "/recordings";
+  minor = 1;
+  line_end = crlf;
+  fields = record { name = codes "Content-Length"; raw = codes " 3"; end = crlf } ∷ [];
+  last = crlf;
+}
+
+-- The bytes of that head, before whatever follows.
+pub row_head-ReadsRequest : (rest : List ℕ) → ReadsRequest
+    (codes "POST /recordings HTTP/1.1" ++ 13 ∷ 10 ∷ codes "Content-Length: 3" ++ 13 ∷ 10 ∷ 13 ∷ 10 ∷ rest)
+    row_head rest
+unfolding httparse_on_literals encode_utf8
+row_head-ReadsRequest rest = (
+  record {
+    method = (omega arith, AllPass-from_list_all is_token_byte (codes "POST") refl);
+    target = (omega arith, AllPass-from_list_all is_uri_byte (codes "/recordings") refl);
+    target_text = (codes "/recordings", (refl, refl));
+    minor = omega arith;
+    fields = All-from_recursion IsField row_head.fields (
+      record {
+        name = (omega arith, AllPass-from_list_all is_token_byte (codes "Content-Length") refl);
+        raw = AllPass-from_list_all is_value_byte (codes " 3") refl;
+      },
+      tt,
+    );
+  },
+  refl,
+)
+
 -- A POST of three bytes.
 abbrev pub row_bytes : List ℕ
 row_bytes = codes "POST /recordings HTTP/1.1" ++ 13 ∷ 10 ∷ codes "Content-Length: 3" ++ 13 ∷ 10 ∷ 13 ∷ 10 ∷ codes "abc"
@@ -120,3 +167,8 @@ row-RequestsOf = (codes "X", row-Frames, inr (refl, (refl, inr (λ e. cc e, refl
 -- Where none is answered, and no byte is there, the input ends.
 pub row-RequestsOf-none : RequestsOf 0 [] [] ended
 row-RequestsOf-none = (refl, inl (refl, refl))
+
+-- That request is a front of them.
+pub row-IsFront : IsFront 1 (row_bytes ++ codes "X") (record { head = row_head; body = codes "abc" } ∷ [])
+unfolding httparse_on_literals
+row-IsFront = (codes "X", row-Frames, inr (refl, tt))

@@ -3,7 +3,11 @@ use Rattle.std.specs.Prelude.{ℕ, List, [], ◌∷◌, ◌++◌, codes, Option,
 use Rattle.std.specs.Str.{bytes_eq}
 use Rattle.httparse.specs.Grammar.{RequestHead}
 use Rattle.md5.specs.Md5.{md5}
-use Rattle.library_model.specs.declared.messages.Reply.{Reply}
+use Rattle.library_model.specs.declared.messages.Command.{Command}
+use Rattle.library_model.specs.declared.messages.Command.TheVariants.{NewAlbum, Import, Retake, Regroup, RemoveRecording, RemoveAlbum}
+use Rattle.library_model.specs.declared.messages.Question.{Question}
+use Rattle.library_model.specs.declared.messages.Question.TheVariants as about
+use Rattle.library_model.specs.Asked.{Asked, Wanted, change, command, malformed, question, refused}
 use Rattle.library_model.specs.Named.{name_in, album_in, if_name}
 use Rattle.library_model.specs.Names.{is_token}
 use Rattle.http_routes.specs.declared.resources.Resource.{Resource}
@@ -12,20 +16,8 @@ use Rattle.http_routes.specs.Resources.{resource_found, route_of}
 use Rattle.http_routes.specs.Routes.{has_method, methods_of}
 use Rattle.http_model.specs.declared.refusals.AskingRefusal.{AskingRefusal}
 use Rattle.http_model.specs.declared.refusals.AskingRefusal.TheVariants.{NoRoute, Method, Token, Name, Body}
-use Rattle.http_model.specs.declared.wishes.Command.{Command}
-use Rattle.http_model.specs.declared.wishes.Command.TheVariants.{NewAlbum, Import, Retake, Regroup, RemoveRecording, RemoveAlbum}
-use Rattle.http_model.specs.declared.wishes.Question.{Question}
-use Rattle.http_model.specs.declared.wishes.Question.TheVariants as about
-use Rattle.http_model.specs.declared.wishes.Wanted.{Wanted}
-use Rattle.http_model.specs.declared.wishes.Wanted.TheVariants as wanted
 use Rattle.http_model.specs.Refusals.{asking_refusal}
 use Rattle.http_model.specs.Requests.{Framed, header_values}
-
--- What a framed request asks: it is refused, it is a question, or under a token, with its mark, it wants a change.
-pub data Wish : Type 0 where
-  refused : Reply → Wish
-  question : Question → Wish
-  change : (token mark : List ℕ) → Wanted → Wish
 
 -- ---- header lines
 
@@ -75,8 +67,8 @@ mark_asked q = mark_of q.head.method q.head.target (name_marked (name_values q.h
 
 -- a command, where there is one, and else the refusal
 abbrev pub or_malformed : AskingRefusal → Option Command → Wanted
-or_malformed cause (Some command) = wanted.Command command
-or_malformed cause None = wanted.Malformed (asking_refusal cause)
+or_malformed cause (Some wanted) = command wanted
+or_malformed cause None = malformed (asking_refusal cause)
 
 -- an import into that album or into none, under the name that the values give
 abbrev pub import_wanted : Option ℕ → List (List ℕ) → List ℕ → Wanted
@@ -88,20 +80,20 @@ abbrev pub wanted_at : Resource → List (List ℕ) → List ℕ → Wanted
 wanted_at at.Albums names body = or_malformed Body (option_map NewAlbum (name_in body))
 wanted_at at.Recordings names body = import_wanted None names body
 wanted_at (at.AlbumRecordings album) names body = import_wanted (Some album) names body
-wanted_at (at.Audio recording) names body = wanted.Command (Retake recording body)
+wanted_at (at.Audio recording) names body = command (Retake recording body)
 wanted_at (at.RecordingAlbum recording) names body = or_malformed Body (option_map (Regroup recording) (album_in body))
-wanted_at (at.Recording recording) names body = wanted.Command (RemoveRecording recording)
-wanted_at (at.Album album) names body = wanted.Command (RemoveAlbum album)
+wanted_at (at.Recording recording) names body = command (RemoveRecording recording)
+wanted_at (at.Album album) names body = command (RemoveAlbum album)
 
 -- ---- what is asked
 
 -- a change under the token, where there is one
-abbrev pub change_asked : Framed → Resource → Option (List ℕ) → Wish
+abbrev pub change_asked : Framed → Resource → Option (List ℕ) → Asked
 change_asked q resource (Some token) = change token (mark_asked q) (wanted_at resource (name_values q.head) q.body)
 change_asked q resource None = refused (asking_refusal Token)
 
 -- what changes is asked under the request's token
-abbrev pub changing : Framed → Resource → Wish
+abbrev pub changing : Framed → Resource → Asked
 changing q resource = change_asked q resource (token_in (token_values q.head))
 
 -- the question about what a target names, at the two that have GET
@@ -115,23 +107,23 @@ abbrev pub question_by : List ℕ → Resource → Option Question
 question_by method resource = if bytes_eq method (codes "GET") then question_about resource else None
 
 -- that question, where one is asked, and else a change
-abbrev pub asked_or_changing : Framed → Resource → Option Question → Wish
+abbrev pub asked_or_changing : Framed → Resource → Option Question → Asked
 asked_or_changing q resource (Some asked) = question asked
 asked_or_changing q resource None = changing q resource
 
 -- what is asked at what the target names, which has the method
-abbrev pub asked_at : Framed → Resource → Wish
+abbrev pub asked_at : Framed → Resource → Asked
 asked_at q resource = asked_or_changing q resource (question_by q.head.method resource)
 
 -- what is asked at what the target names, if it names anything
-abbrev pub asked_if : Framed → Option Resource → Wish
+abbrev pub asked_if : Framed → Option Resource → Asked
 asked_if q (Some resource) =
     if has_method q.head.method (route_of resource) then asked_at q resource else refused (asking_refusal Method)
 asked_if q None = refused (asking_refusal NoRoute)
 
 -- What a framed request asks: refused are first a target that names nothing, then a method that is none of the route's,
 -- then a change without a token.
-abbrev pub asked_of : Framed → Wish
+abbrev pub asked_of : Framed → Asked
 asked_of q = asked_if q (resource_found q.head.target)
 
 -- ---- the line `Allow`

@@ -1,5 +1,6 @@
 pub mod Asking
-pub mod Framing
+pub mod Exchanges
+pub mod Fields
 pub mod Refusals
 pub mod Requests
 pub mod Spelling

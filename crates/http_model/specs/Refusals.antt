@@ -9,14 +9,14 @@ use Rattle.http_model.specs.declared.refusals.FramingRefusal.TheVariants.{Frame,
 use Rattle.http_model.specs.declared.refusals.TheConstants.{FRAME, LENGTH, SIZE, NO_ROUTE, METHOD, TOKEN, NAME, BODY}
 
 -- the status and the word of a refusal, from the one table of them
-abbrev pub row_of : FramingRefusal → ℕ × record { now : List ℕ }
-row_of Frame = FRAME
-row_of Length = LENGTH
-row_of Size = SIZE
+abbrev pub framing_row : FramingRefusal → ℕ × record { now : List ℕ }
+framing_row Frame = FRAME
+framing_row Length = LENGTH
+framing_row Size = SIZE
 
 -- a refusal: its status, and its word as JSON
 abbrev pub framing_refusal : FramingRefusal → Reply
-framing_refusal cause = json (row_of cause).0 (codes "{\"error\":\"" ++ (row_of cause).1.now ++ codes "\"}")
+framing_refusal cause = json (framing_row cause).0 (codes "{\"error\":\"" ++ (framing_row cause).1.now ++ codes "\"}")
 
 -- the status and the word of a refusal of what is asked, from the one table of them
 abbrev pub asking_row : AskingRefusal → ℕ × record { now : List ℕ }

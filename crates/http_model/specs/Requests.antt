@@ -1,13 +1,16 @@
 -- The requests that bytes spell, whatever they ask (RFC 9112 sections 2.2, 3, 6 and 9.6).
-use Rattle.std.specs.Prelude.{◌≡◌, ◌≢◌, ◌<◌, ◌≤◌, ◌⊎◌, ◌==◌, ◌&&◌, ◌||◌, ℕ, suc, zero, Bool, true, false, List, [], ◌∷◌, ◌++◌, length, map, codes, nat_le, if◌then◌else◌}
+use Rattle.std.specs.Prelude.{◌≡◌, ◌≢◌, ◌<◌, ◌≤◌, ◌⊎◌, ◌==◌, ◌&&◌, ◌||◌, ℕ, suc, zero, Bool, true, false, List, [], ◌∷◌, ◌++◌, length, map, codes, nat_le, if◌then◌else◌, ⊤}
 use Rattle.std.specs.List.{list_any}
 use Rattle.std.specs.Str.{bytes_eq, all_ascii_digits}
 use Rattle.std.specs.Str.Parse.{digits_value}
 use Rattle.httparse.specs.Grammar.{RequestHead, ReadsRequest, print_request}
 use Rattle.httparse.specs.Spans.{name_and_value}
+use Rattle.library_model.specs.declared.limits.TheConstants.{MOST_BODY_BYTES}
+use Rattle.library_model.specs.declared.messages.Reply.{Reply}
 use Rattle.http_model.specs.declared.refusals.FramingRefusal.{FramingRefusal}
 use Rattle.http_model.specs.declared.refusals.FramingRefusal.TheVariants.{Frame, Length, Size}
-use Rattle.http_model.specs.Framing.{is_named, values_of}
+use Rattle.http_model.specs.Fields.{is_named, values_of}
+use Rattle.http_model.specs.Refusals.{framing_refusal}
 
 -- the greatest length of a head, in bytes
 unfoldable pub head_limit : ℕ
@@ -19,7 +22,7 @@ field_limit = 32
 
 -- the greatest length of a body, in bytes
 unfoldable pub body_limit : ℕ
-body_limit = 268435456
+body_limit = MOST_BODY_BYTES
 
 -- A request: its head, and its body.
 pub record Framed : Type 0 where
@@ -100,11 +103,11 @@ IsUnframeable bytes cause =
 abbrev pub closes : RequestHead → Bool
 closes head = head.minor == 0 || list_any (is_named (codes "close")) (header_values (codes "Connection") head)
 
--- How the requests of bytes end: no byte is left or a request closed, no request can be framed of what is left, or as many
--- as are answered were there and bytes are left.
+-- How the requests of bytes end: no byte is left or a request closed, no request can be framed of what is left, which gets
+-- that reply, or as many as are answered were there and bytes are left.
 pub data End : Type 0 where
   ended : End
-  unframeable : FramingRefusal → End
+  unframeable : Reply → End
   turns : End
 
 -- what is left where no further request is answered
@@ -114,7 +117,8 @@ LeavesAt bytes end = ((bytes ≡ []) × (end ≡ ended)) ⊎ ((bytes ≢ []) × 
 -- what is left begins with no request
 abbrev pub StopsAt : List ℕ → End → Type 0
 StopsAt bytes end =
-    ((bytes ≡ []) × (end ≡ ended)) ⊎ ((cause : FramingRefusal) × IsUnframeable bytes cause × (end ≡ unframeable cause))
+    ((bytes ≡ []) × (end ≡ ended))
+    ⊎ ((cause : FramingRefusal) × IsUnframeable bytes cause × (end ≡ unframeable (framing_refusal cause)))
 
 -- The requests of the bytes, of which so many are answered at most, are these, and end so.
 abbrev pub RequestsOf : ℕ → List ℕ → List Framed → End → Type 0
@@ -124,3 +128,25 @@ RequestsOf (suc n) bytes (q ∷ requests) end =
     (rest : List ℕ) × Frames bytes q rest
     × (((closes q.head ≡ true) × (requests ≡ []) × (end ≡ ended))
     ⊎ ((closes q.head ≡ false) × RequestsOf n rest requests end))
+
+-- They are, and no other requests are, nor do they end otherwise.
+pub record AreRequests (n : ℕ) (bytes : List ℕ) (requests : List Framed) (end : End) : Type 0 where
+  pub are : RequestsOf n bytes requests end
+  pub only : (others : List Framed) (other : End) → RequestsOf n bytes others other → (others ≡ requests) × (other ≡ end)
+
+-- The bytes begin with these requests, of which so many are answered at most. Behind one that closes there is none.
+abbrev pub IsFront : ℕ → List ℕ → List Framed → Type 0
+IsFront n bytes [] = ⊤
+IsFront zero bytes (q ∷ requests) = ⊥
+IsFront (suc n) bytes (q ∷ requests) =
+    (rest : List ℕ) × Frames bytes q rest
+    × (((closes q.head ≡ true) × (requests ≡ []))
+    ⊎ ((closes q.head ≡ false) × IsFront n rest requests))
+
+-- Of the bytes that were taken these requests were passed, and those of `left` are behind them. Of `most` requests that are
+-- answered, `n` more are. So, however the bytes go on, the requests that they make are these and then those of what is left.
+pub record SoFar (most n : ℕ) (taken left : List ℕ) (passed : List Framed) : Type 0 where
+  pub on : (more : List ℕ) (requests : List Framed) (end : End)
+      → RequestsOf n (left ++ more) requests end → RequestsOf most (taken ++ more) (passed ++ requests) end
+  pub front : (more : List ℕ) (requests : List Framed)
+      → IsFront n (left ++ more) requests → IsFront most (taken ++ more) (passed ++ requests)

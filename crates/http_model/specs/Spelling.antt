@@ -3,7 +3,6 @@ use Rattle.std.specs.Prelude.{ℕ, Bool, true, false, List, [], ◌∷◌, ◌++
 use Rattle.library_model.specs.declared.messages.BodyKind.{BodyKind}
 use Rattle.library_model.specs.declared.messages.BodyKind.TheVariants.{Json, Csv, Wave, Flac}
 use Rattle.library_model.specs.declared.messages.Reply.{Reply}
-use Rattle.library_model.specs.Exchanges.{Exchange}
 use Rattle.http_routes.specs.Routes.{allowed}
 
 -- a line of that text
@@ -45,22 +44,9 @@ abbrev pub allowing : List (List ℕ) → List ℕ
 allowing [] = []
 allowing (method ∷ methods) = line (codes "Allow: " ++ allowed (method ∷ methods))
 
--- the lines of a reply up to its body
-abbrev pub spelled_head : Bool → Reply → List ℕ
-spelled_head closes reply =
-    line (codes "HTTP/1.1 " ++ decimal reply.status ++ codes " " ++ reason reply.status)
-    ++ line (codes "Content-Type: " ++ media_type reply.kind)
-    ++ line (codes "Content-Length: " ++ decimal (length reply.body))
-    ++ closing closes
-    ++ line []
-
--- the bytes of a reply
-abbrev pub spelled : Bool → Reply → List ℕ
-spelled closes reply = spelled_head closes reply ++ reply.body
-
--- the lines of a reply up to its body, with one that says which methods there are
-abbrev pub spelled_head_with : Bool → List (List ℕ) → Reply → List ℕ
-spelled_head_with closes methods reply =
+-- the lines of a reply up to its body, after which the connection closes or not; one says which methods there are, where any are named
+abbrev pub spelled_head : Bool → List (List ℕ) → Reply → List ℕ
+spelled_head closes methods reply =
     line (codes "HTTP/1.1 " ++ decimal reply.status ++ codes " " ++ reason reply.status)
     ++ line (codes "Content-Type: " ++ media_type reply.kind)
     ++ allowing methods
@@ -68,11 +54,10 @@ spelled_head_with closes methods reply =
     ++ closing closes
     ++ line []
 
--- the bytes of a reply that says which methods there are
-abbrev pub spelled_with : Bool → List (List ℕ) → Reply → List ℕ
-spelled_with closes methods reply = spelled_head_with closes methods reply ++ reply.body
+-- the bytes of a reply
+abbrev pub spelled : Bool → List (List ℕ) → Reply → List ℕ
+spelled closes methods reply = spelled_head closes methods reply ++ reply.body
 
--- the bytes of the replies of exchanges after which the connection stays, one after another
-abbrev pub spelled_all : List Exchange → List ℕ
-spelled_all [] = []
-spelled_all (e ∷ exchanges) = spelled false e.reply ++ spelled_all exchanges
+-- the bytes of the reply to what can't be framed, after which the connection closes
+abbrev pub spelled_refusal : Reply → List ℕ
+spelled_refusal reply = spelled true [] reply

@@ -2,11 +2,9 @@
 //! what a framed request asks, and the bytes that spell replies (RFC 9112).
 //!
 //! The definitions stand in `specs/`, and hold no algorithm. Here stand the refusals, whose
-//! statuses and words both definitions and code read, and what a request asks.
+//! statuses and words both definitions and code read.
 #![tactic(auto)]
 
 mod refusals;
-mod wishes;
 
 pub use refusals::{AskingRefusal, FramingRefusal};
-pub use wishes::{Command, Question, Wanted};

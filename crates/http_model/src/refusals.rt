@@ -1,9 +1,9 @@
 //! Refusals of what can't be framed, with each of which a session ends, and of what is framed and asks
 //! for nothing that there is.
-ghost use Rattle.std.specs.Prelude.{◌≡◌, true};
+ghost use Rattle.std.specs.Prelude.{◌≡◌};
 ghost use Rattle.http_model.specs.declared.refusals.FramingRefusal.TheVariants as cause;
 ghost use Rattle.http_model.specs.Refusals.{asking_row, framing_refusal};
-ghost use Rattle.http_model.specs.Spelling.{spelled};
+ghost use Rattle.http_model.specs.Spelling.{spelled_refusal};
 
 /// Why what is left of an input is refused.
 #[derive(Clone, Copy, Debug, PartialEq, Eq)]
@@ -12,7 +12,7 @@ pub enum FramingRefusal {
     Frame,
     /// A length is asked for and is not given.
     Length,
-    /// The input is too long.
+    /// A body is longer than may be.
     Size,
 }
 
@@ -52,7 +52,7 @@ const BODY: (u16, &str) = (400, "body");
 impl FramingRefusal {
     /// The bytes of the reply, after which the connection closes. They take no memory.
     pub fn text(self) -> &'static [u8]
-        ensures { result.now ≡ spelled true (framing_refusal self) }
+        ensures { result.now ≡ spelled_refusal (framing_refusal self) }
     {
         match self {
             FramingRefusal::Frame => frame_text(),
@@ -93,21 +93,21 @@ impl AskingRefusal {
 
 /// The reply to what no request begins.
 fn frame_text() -> &'static [u8]
-    ensures { result.now ≡ spelled true (framing_refusal cause.Frame) }
+    ensures { result.now ≡ spelled_refusal (framing_refusal cause.Frame) }
 {
     b"HTTP/1.1 400 Bad Request\r\nContent-Type: application/json\r\nContent-Length: 17\r\nConnection: close\r\n\r\n{\"error\":\"frame\"}"
 }
 
 /// The reply to what gives no length.
 fn length_text() -> &'static [u8]
-    ensures { result.now ≡ spelled true (framing_refusal cause.Length) }
+    ensures { result.now ≡ spelled_refusal (framing_refusal cause.Length) }
 {
     b"HTTP/1.1 411 Length Required\r\nContent-Type: application/json\r\nContent-Length: 18\r\nConnection: close\r\n\r\n{\"error\":\"length\"}"
 }
 
-/// The reply to what is too long.
+/// The reply to a body that is longer than may be.
 fn size_text() -> &'static [u8]
-    ensures { result.now ≡ spelled true (framing_refusal cause.Size) }
+    ensures { result.now ≡ spelled_refusal (framing_refusal cause.Size) }
 {
     b"HTTP/1.1 413 Content Too Large\r\nContent-Type: application/json\r\nContent-Length: 16\r\nConnection: close\r\n\r\n{\"error\":\"size\"}"
 }

@@ -3,7 +3,7 @@ use Rattle.std.specs.Prelude.{◌≡◌, ◌==◌, ◌&&◌, ◌<◌, ◌^◌, n
 use Rattle.std.specs.List.{before_first, after_first}
 use Rattle.std.specs.Str.{all_ascii_digits}
 use Rattle.std.specs.Str.Parse.{digits_value}
-use Rattle.http_routes.specs.declared.ids.TheConstants.{IDS_END}
+use Rattle.lib_base.specs.declared.limits.TheConstants.{NUMBERS_END}
 
 -- a slash
 abbrev pub is_slash : ℕ → Bool
@@ -17,7 +17,7 @@ id_text target = before_first is_slash (after_first is_slash (after_first is_sla
 abbrev pub is_id : List ℕ → Bool
 is_id text =
     all_ascii_digits text && not (slice_index text 0 == 48)
-    && nat_le 1 (digits_value 10 text) && nat_lt (digits_value 10 text) IDS_END
+    && nat_le 1 (digits_value 10 text) && nat_lt (digits_value 10 text) NUMBERS_END
 
 -- the id that a text writes, and 0, which nothing has, where it writes none
 abbrev pub id_asked : List ℕ → ℕ

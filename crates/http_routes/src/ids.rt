@@ -4,8 +4,7 @@ ghost use Rattle.std.specs.List.{before_first, after_first};
 ghost use Rattle.std.specs.Str.Parse.{digits_value};
 ghost use Rattle.http_routes.specs.Ids.{id_asked, id_text, is_slash, WritesNumber};
 
-/// The number from which on none is given to a recording or an album.
-const IDS_END: u32 = 2_147_483_647;
+use lib_base::NUMBERS_END;
 
 /// The id that a target writes between its second slash and its third, and 0 where it writes none.
 pub(crate) fn id_in(target: &str) -> u32
@@ -42,7 +41,7 @@ fn id_written(text: &str) -> Option<u32>
     match text.as_bytes() {
         [b'1'..=b'9', ..] => {
             let id = number_written(text)?;
-            (id < IDS_END).then_some(id)
+            (id < NUMBERS_END).then_some(id)
         }
         _ => None,
     }

@@ -5,11 +5,12 @@
 #![tactic(auto)]
 
 mod names;
+mod objects;
 mod replies;
 mod requests;
 #[cfg(test)]
 mod tests;
 
 pub use names::is_name;
-pub use replies::{describe_row, refuse, refuse_format};
+pub use replies::{describe_album, describe_removed, describe_row, refuse, refuse_format};
 pub use requests::{read_album, read_name};

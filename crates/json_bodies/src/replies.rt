@@ -1,17 +1,16 @@
 //! The bodies of replies.
-ghost use Rattle.std.specs.Prelude.{◌≡◌, IfOk, string_bytes};
-ghost use Rattle.serde_json.specs.View.{view};
+ghost use Rattle.std.specs.Prelude.{◌≡◌, IfOk, codes, string_bytes};
+ghost use Rattle.serde_json.specs.Data.{member, no_members, number, object, unsigned};
 ghost use Rattle.serde_json.specs.Written.{compact_text};
-ghost use Rattle.library_model.specs.Bodies.{kind_text, recording_data, row_reply};
+ghost use Rattle.library_model.specs.Bodies.{album_data, album_row_reply, kind_text, recording_data, removed_reply, row_reply};
 ghost use Rattle.library_model.specs.Replies as model;
-ghost use Rattle.sound_model.specs.Texts.{peak_text};
+ghost use Rattle.json_bodies.specs.Objects.{members_of};
 
-use db_table::peak_text;
-use keeper_store::RecordingRow;
+use crate::objects::Object;
+use keeper_store::{AlbumRow, RecordingRow};
 use lib_base::{Broken, Bytes, Kind, Memory};
 use library_model::{BodyKind, Refusal, Reply};
-use serde_json::{Value, json};
-use std::alloc::{AllocError, Global};
+use std::alloc::Global;
 
 /// The refusal for that cause.
 pub fn refuse(alloc: Global, cause: Refusal) -> Result<Reply, Memory>
@@ -40,41 +39,76 @@ pub fn describe_row(alloc: Global, status: u16, row: &RecordingRow) -> Result<Re
     Ok(json_reply(status, text))
 }
 
+/// What is replied about the album of a row, with that status. `ids` are those of its recordings.
+pub fn describe_album(
+    alloc: Global,
+    status: u16,
+    row: &AlbumRow,
+    ids: &[u32],
+) -> Result<Reply, Memory>
+    ensures { IfOk result (λ reply. reply ≡ album_row_reply status row.now ids.now) }
+{
+    let text = album_text(alloc, row, ids)?;
+    Ok(json_reply(status, text))
+}
+
+/// What is replied about what was removed: its id.
+pub fn describe_removed(alloc: Global, id: u32) -> Result<Reply, Memory>
+    ensures { IfOk result (λ reply. reply ≡ removed_reply id) }
+{
+    let text = removed_text(alloc, id)?;
+    Ok(json_reply(200, text))
+}
+
 fn recording_text(alloc: Global, row: &RecordingRow) -> Result<String, Memory>
     ensures { IfOk result (λ text. string_bytes text ≡ compact_text (recording_data row.now)) }
 {
-    let peak = peak_text(alloc, row.summary.peak)?;
-    let value = recording_value(alloc, row, kind_text(row.kind), peak.as_str())?;
-    let text = value.to_string(alloc)?;
-    Ok(text)
+    let object = recording_object(alloc, row)?;
+    object.into_text()
 }
 
-/// The recording of a row, of which those are the texts of the kind and of the peak.
-fn recording_value(
-    alloc: Global,
-    row: &RecordingRow,
-    kind: &str,
-    peak: &str,
-) -> Result<Value, AllocError>
-    requires kind { kind.now ≡ kind_text row.now.kind }
-    requires peak { peak.now ≡ peak_text row.now.summary.peak }
-    ensures { IfOk result (λ value. view value ≡ recording_data row.now) }
+fn recording_object(alloc: Global, row: &RecordingRow) -> Result<Object, Memory>
+    ensures { IfOk result (λ made. object (members_of made) ≡ recording_data row.now) }
 {
-    let summary = row.summary;
-    json!(in alloc; {
-        "channels": row.channels,
-        "depth": row.depth,
-        "frames": summary.frames,
-        "gain": summary.gain,
-        "id": row.id,
-        "kind": kind,
-        "loudness": summary.loudness,
-        "momentary": summary.momentary,
-        "peak": peak,
-        "range": summary.range,
-        "short": summary.short_term,
-        "true_peak": summary.true_peak
-    })
+    let mut object = Object::new(alloc);
+    object.album("album", row.album)?;
+    object.number("channels", u64::from(row.channels))?;
+    object.number("depth", u64::from(row.depth))?;
+    object.number("frames", row.summary.frames)?;
+    object.number("id", u64::from(row.id))?;
+    object.text("kind", kind_text(row.kind))?;
+    object.text("name", row.name.as_str())?;
+    object.number("take", u64::from(row.take))?;
+    object.levels(row.summary)?;
+    Ok(object)
+}
+
+fn album_text(alloc: Global, row: &AlbumRow, ids: &[u32]) -> Result<String, Memory>
+    ensures { IfOk result (λ text. string_bytes text ≡ compact_text (album_data row.now ids.now)) }
+{
+    let object = album_object(alloc, row, ids)?;
+    object.into_text()
+}
+
+fn album_object(alloc: Global, row: &AlbumRow, ids: &[u32]) -> Result<Object, Memory>
+    ensures { IfOk result (λ made. object (members_of made) ≡ album_data row.now ids.now) }
+{
+    let mut object = Object::new(alloc);
+    object.number("id", u64::from(row.id))?;
+    object.text("name", row.name.as_str())?;
+    object.ids("recordings", ids)?;
+    object.levels(row.summary)?;
+    Ok(object)
+}
+
+/// The text of an object that has an id alone.
+fn removed_text(alloc: Global, id: u32) -> Result<String, Memory>
+    ensures { IfOk result (λ text. string_bytes text
+        ≡ compact_text (object (member (codes "removed") (number (unsigned id)) no_members))) }
+{
+    let mut object = Object::new(alloc);
+    object.number("removed", u64::from(id))?;
+    object.into_text()
 }
 
 /// The text that a kind of file is answered as.

@@ -5,12 +5,9 @@ ghost use Rattle.serde_json.specs.Find.{as_str};
 ghost use Rattle.serde_json.specs.View.{view};
 
 use crate::names::is_name;
-use lib_base::{Memory, Text};
+use lib_base::{Memory, NUMBERS_END, Text};
 use serde_json::Value;
 use std::alloc::Global;
-
-/// The number from which on none is given to an album.
-const NUMBERS_END: u64 = 2_147_483_647;
 
 /// The name that a body gives: `A` of `{"name":"A"}`, and none of any other body.
 pub fn read_name(alloc: Global, body: &[u8]) -> Result<Option<Text>, Memory>
@@ -101,7 +98,7 @@ fn chosen(value: &Value) -> Option<Option<u32>>
 fn id_of(number: u64) -> Option<u32>
     ensures { result ≡ model.if_given number }
 {
-    if 1 <= number && number < NUMBERS_END {
+    if 1 <= number && number < u64::from(NUMBERS_END) {
         Some(number as u32)
     } else {
         None

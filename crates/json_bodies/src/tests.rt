@@ -1,5 +1,8 @@
-//! What bodies of requests say. Memory is ample here, so no answer is want of it.
-use crate::{is_name, read_album, read_name};
+//! What bodies of requests say, and those of replies. Memory is ample here, so no answer is want of it.
+use crate::{describe_album, describe_removed, is_name, read_album, read_name};
+use keeper_store::AlbumRow;
+use lib_base::{Memory, Summary, Text};
+use library_model::Reply;
 use std::alloc::{AllocError, Global};
 use std::test::Fail;
 
@@ -115,5 +118,49 @@ fn names_have_a_form(rt: HostRuntime) -> Result<(), Fail> {
     ] {
         assert_eq!(rt; is_name(text), is, "{text:?}");
     }
+    Ok(())
+}
+
+/// What is replied about an album of these recordings, whose levels can't be measured.
+fn described(alloc: Global, ids: &[u32]) -> Result<Reply, Memory> {
+    let name = Text::of(String::from_str(alloc, "A")?);
+    let summary = Summary {
+        frames: 0,
+        loudness: None,
+        range: None,
+        momentary: None,
+        short_term: None,
+        true_peak: None,
+        peak: 0,
+        gain: None,
+    };
+    describe_album(
+        alloc,
+        201,
+        &AlbumRow {
+            id: 1,
+            name,
+            summary,
+        },
+        ids,
+    )
+}
+
+#[test]
+fn albums_and_removals_are_described(rt: HostRuntime) -> Result<(), Fail> {
+    let alloc = rt.alloc();
+    let empty = described(alloc, &[])?;
+    assert_eq!(rt; empty.status, 201);
+    assert_eq!(rt;
+        empty.body.as_slice(),
+        br#"{"gain":null,"id":1,"loudness":null,"momentary":null,"name":"A","peak":"0.000000","range":null,"recordings":[],"short":null,"true_peak":null}"#.as_slice()
+    );
+    let two = described(alloc, &[7, 12])?;
+    assert_eq!(rt;
+        two.body.as_slice(),
+        br#"{"gain":null,"id":1,"loudness":null,"momentary":null,"name":"A","peak":"0.000000","range":null,"recordings":[7,12],"short":null,"true_peak":null}"#.as_slice()
+    );
+    let removed = describe_removed(alloc, 7)?;
+    assert_eq!(rt; removed.body.as_slice(), br#"{"removed":7}"#.as_slice());
     Ok(())
 }

@@ -2,11 +2,15 @@
 ghost use Rattle.std.specs.Prelude.{◌≡◌, ◌≤◌, ◌<◌, ◌-◌, ◌*◌, ◌^◌, ℕ, ℤ, pos, ◌+ℤ◌, List, [], ◌∷◌, ◌++◌, length, All, unsigned_abs};
 ghost use Rattle.std.specs.Int.{int_div_euclid};
 ghost use Rattle.lib_base.specs.Sounds.{IsSample};
+ghost use Rattle.lib_base.specs.declared.limits.TheConstants.{LEAST_DEPTH, GREATEST_DEPTH};
 ghost use Rattle.sound_model.specs.Weighted.{shelf, high_pass, next_output, held, entering, leaving, weighted};
 ghost use Rattle.k_filter.specs.Bounds.{IsWithin};
 
 use crate::sections::{Recent, high_pass_output, shelf_output};
-use lib_base::SAMPLE_RATE;
+use lib_base::{SAMPLE_RATE, scaled};
+
+/// How much finer the units of a sample are as it enters than those of 24 bits.
+const ENTERING: i64 = 1 << 16;
 
 /// The K-weighting filter of one channel, at 48,000 Hz.
 #[derive(Clone, Copy, Debug)]
@@ -43,8 +47,8 @@ impl Filter {
     /// weighted list of all samples, however they were cut.
     pub fn feed(&mut self, samples: &[i32], depth: u32, out: &mut [i32])
         requires equal { length samples.now ≡ length out.old }
-        requires low { 4 ≤ depth }
-        requires high { depth ≤ 24 }
+        requires low { LEAST_DEPTH ≤ depth }
+        requires high { depth ≤ GREATEST_DEPTH }
         requires within { All (IsSample depth) samples.now }
         ensures state { (fed : List ℤ) → WasFed self.old depth fed
             → WasFed self.new depth (fed ++ samples.now) }
@@ -80,22 +84,13 @@ impl Filter {
 /// A sample as it enters, in units of 2^-39 of full scale.
 #[inline(always)]
 fn entering_value(sample: i32, depth: u32) -> i64
-    requires low { 4 ≤ depth }
-    requires high { depth ≤ 24 }
+    requires low { LEAST_DEPTH ≤ depth }
+    requires high { depth ≤ GREATEST_DEPTH }
     requires within { IsSample depth sample }
     ensures value { result ≡ entering depth sample }
     ensures small { unsigned_abs result ≤ 2 ^ 39 }
 {
-    i64::from(sample) * scale(depth)
-}
-
-#[inline(always)]
-fn scale(depth: u32) -> i64
-    requires low { 4 ≤ depth }
-    requires high { depth ≤ 24 }
-    ensures { result ≡ pos (2 ^ (24 - depth) * 2 ^ 16) }
-{
-    (1u64 << (40 - depth)) as i64
+    scaled(sample, depth) * ENTERING
 }
 
 /// An output as it leaves, in units of 2^-27 of full scale.

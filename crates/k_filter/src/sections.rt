@@ -26,7 +26,7 @@ impl Recent {
     }
 }
 
-/// The next output of the first section, a high shelf.
+/// The next output of the first section, the pre-filter: a high shelf.
 #[inline(always)]
 pub fn shelf_output(input: i64, inputs: Recent, outputs: Recent) -> i64
     requires input { unsigned_abs input ≤ 2 ^ 39 }
@@ -42,7 +42,7 @@ pub fn shelf_output(input: i64, inputs: Recent, outputs: Recent) -> i64
     held_output(whole_units(shelf_sum(input, inputs, outputs)))
 }
 
-/// The next output of the second section, a high pass.
+/// The next output of the second section, the RLB filter: a high pass.
 ///
 /// Its first three coefficients are whole, and the other two nearly are, so all that is whole is
 /// added up apart, and only the rest is a sum in units of 10^-14.

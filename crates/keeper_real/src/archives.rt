@@ -1,6 +1,6 @@
 //! The database of a library, opened and locked.
 use crate::loading::read_tables;
-use crate::opening::{Database, connect, prepare};
+use crate::opening::{Database, connect, prepare, refuse_new};
 use crate::refusals::Refusal;
 use crate::saving::make_batch;
 use keeper_store::{Batch, Tables};
@@ -34,6 +34,7 @@ impl Archive {
         path: &str,
         takes: Option<&str>,
     ) -> Result<Archive, Refusal> {
+        refuse_new(rt, path, takes)?;
         let mut database = connect(rt, path)?;
         prepare(rt, &mut database, takes)?;
         Ok(Archive { database })

@@ -12,6 +12,18 @@ pub(crate) type Database = Connection<FileStore<FileFrom<Wary>>>;
 /// How many bytes of a database and its log can be opened within a second.
 const QUICK: u64 = 50 << 20;
 
+/// Refuses to make a new database where the folder of takes holds a file, and makes nothing then: the
+/// log of a new one would be taken in over a database that is put back.
+pub(crate) fn refuse_new(rt: &HostRuntime, path: &str, takes: Option<&str>) -> Result<(), Refusal> {
+    let Ok(log) = size_of_log(rt, path) else {
+        return Err(Refusal::Memory);
+    };
+    if log == 0 && size_of_file(rt, path) == 0 {
+        refuse_orphans(rt, takes)?;
+    }
+    Ok(())
+}
+
 /// Opens the file and its log, and makes them where they are missing.
 ///
 /// The pages have no sums, which an ordinary sqlite3 that writes would spoil: rows are checked by

@@ -7,7 +7,7 @@ use Rattle.std.proofs.Math.Nat.{pow-succ', one-le-pow}
 use Rattle.std.proofs.Math.ListN.{get_or}
 use Rattle.std.proofs.lemmas.List.{take_at, drop_at, take_more, flat_map_more}
 use Rattle.std.proofs.lemmas.List.Elements.{All-head, All-tail}
-use Rattle.sound_model.specs.Segments.{greatest_energy}
+use Rattle.lib_base.specs.declared.limits.TheConstants.{GREATEST_ENERGY}
 use Rattle.keeper_store.specs.EnergyBytes.{energy_bytes, row_bytes, spelled, energies_in, AreEnergies, HasTooGreat}
 
 length-bytes_high_first : (k n : ℕ) → length (bytes_high_first k n) ≡ k
@@ -31,7 +31,7 @@ fold-bytes_high_first (suc k) n before =
     (fold-bytes_high_first k n (256 * before + byte_at k n)
     ∙ spelled-digit before (byte_at k n) (256 ^ k) (n % 256 ^ k) (n % (256 * 256 ^ k)) (byte_at-mod k n))
 
-spelled-energy_bytes : (e : ℕ) → e ≤ greatest_energy → spelled (energy_bytes e) ≡ e
+spelled-energy_bytes : (e : ℕ) → e ≤ GREATEST_ENERGY → spelled (energy_bytes e) ≡ e
 spelled-energy_bytes e within = fold-bytes_high_first 11 e 0 ∙ omega (arith, within)
 
 -- a row has 11 bytes for each energy
@@ -44,7 +44,7 @@ length-row_bytes (e ∷ es) =
 chunks-row_bytes : (es : List ℕ) → AreEnergies es → map spelled (first_chunks 11 (length es) (row_bytes es)) ≡ es
 chunks-row_bytes [] within = refl
 chunks-row_bytes (e ∷ es) within =
-    let Within : ℕ → Type 0 = λ x. x ≤ greatest_energy in
+    let Within : ℕ → Type 0 = λ x. x ≤ GREATEST_ENERGY in
     let count = length-bytes_high_first 11 e in
     let first : spelled (take 11 (row_bytes (e ∷ es))) ≡ e =
     ap spelled (take_at (energy_bytes e) (row_bytes es) 11 count) ∙ spelled-energy_bytes e (All-head Within e es within) in

@@ -2,9 +2,9 @@
 use Rattle.std.specs.Prelude.{◌≡◌, ℕ, Bool, true, false, [], ◌∷◌, nat_lt, refl}
 use Rattle.std.specs.Cmp.Lexicographic.{slice_cmp}
 use Rattle.std.specs.Ordering.{nat_cmp, is_lt}
+use Rattle.lib_base.specs.declared.limits.TheConstants.{GREATEST_ENERGY}
 use Rattle.keeper_store.specs.EnergyBytes.{row_bytes, energies_in}
 use Rattle.keeper_store.specs.Puts.{put, without}
-use Rattle.sound_model.specs.Segments.{greatest_energy}
 
 -- pairs by their first number, as rows by their ids
 abbrev first_less : ℕ × ℕ → ℕ × ℕ → Bool
@@ -47,8 +47,8 @@ two_energies : row_bytes (258 ∷ 1 ∷ []) ≡ 0 ∷ 0 ∷ 0 ∷ 0 ∷ 0 ∷ 0 
 two_energies = refl
 
 -- the greatest energy is 0x2aa08 times 2^64
-of_the_greatest : row_bytes (greatest_energy ∷ []) ≡ 2 ∷ 170 ∷ 8 ∷ 0 ∷ 0 ∷ 0 ∷ 0 ∷ 0 ∷ 0 ∷ 0 ∷ 0 ∷ []
+of_the_greatest : row_bytes (GREATEST_ENERGY ∷ []) ≡ 2 ∷ 170 ∷ 8 ∷ 0 ∷ 0 ∷ 0 ∷ 0 ∷ 0 ∷ 0 ∷ 0 ∷ 0 ∷ []
 of_the_greatest = refl
 
-read_from_bytes : energies_in (2 ∷ 170 ∷ 8 ∷ 0 ∷ 0 ∷ 0 ∷ 0 ∷ 0 ∷ 0 ∷ 0 ∷ 0 ∷ 0 ∷ 0 ∷ 0 ∷ 0 ∷ 0 ∷ 0 ∷ 0 ∷ 0 ∷ 0 ∷ 1 ∷ 2 ∷ []) ≡ greatest_energy ∷ 258 ∷ []
+read_from_bytes : energies_in (2 ∷ 170 ∷ 8 ∷ 0 ∷ 0 ∷ 0 ∷ 0 ∷ 0 ∷ 0 ∷ 0 ∷ 0 ∷ 0 ∷ 0 ∷ 0 ∷ 0 ∷ 0 ∷ 0 ∷ 0 ∷ 0 ∷ 0 ∷ 1 ∷ 2 ∷ []) ≡ GREATEST_ENERGY ∷ 258 ∷ []
 read_from_bytes = refl

@@ -2,7 +2,7 @@
 use Rattle.std.specs.Prelude.{◌+◌, ◌*◌, ◌/◌, ◌<◌, ◌≤◌, ℕ, List, length, map, fold, flat_map, All, Any}
 use Rattle.std.specs.Int.{bytes_high_first}
 use Rattle.std.specs.Simd.{first_chunks}
-use Rattle.sound_model.specs.Segments.{greatest_energy}
+use Rattle.lib_base.specs.declared.limits.TheConstants.{GREATEST_ENERGY}
 
 -- the lowest 11 bytes of an energy
 abbrev pub energy_bytes : ℕ → List ℕ
@@ -22,8 +22,8 @@ energies_in bytes = map spelled (first_chunks 11 (length bytes / 11) bytes)
 
 -- energies that a row may have
 abbrev pub AreEnergies : List ℕ → Type 0
-AreEnergies energies = All (λ e. e ≤ greatest_energy) energies
+AreEnergies energies = All (λ e. e ≤ GREATEST_ENERGY) energies
 
 -- some number is greater than an energy may be
 abbrev pub HasTooGreat : List ℕ → Type 0
-HasTooGreat numbers = Any (λ e. greatest_energy < e) numbers
+HasTooGreat numbers = Any (λ e. GREATEST_ENERGY < e) numbers

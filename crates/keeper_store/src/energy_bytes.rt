@@ -2,11 +2,8 @@
 ghost use Rattle.std.specs.Prelude.{◌≡◌, ◌≢◌, ◌↔◌, ◌%◌, length, map, IfOk, IsErrOf, OnOk, OnErr};
 ghost use Rattle.keeper_store.specs.EnergyBytes.{row_bytes, spelled, energies_in, AreEnergies, HasTooGreat};
 
-use lib_base::{Bytes, Energies, Memory};
+use lib_base::{Bytes, Energies, GREATEST_ENERGY, Memory};
 use std::alloc::{AllocError, Global};
-
-/// The greatest energy of a segment: six channels at the clamp.
-const GREATEST_ENERGY: u128 = (1 << 60) * 4800 * 582;
 
 /// Why the bytes of a row give no energies.
 #[derive(Clone, Copy, Debug, PartialEq, Eq)]

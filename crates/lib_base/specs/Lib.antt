@@ -1,6 +1,7 @@
 pub mod ItemLends
 pub mod Doors
 pub mod Faults
+pub mod Goes
 pub mod Kinds
 pub mod MemoryPlans
 pub mod Plan

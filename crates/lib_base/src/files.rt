@@ -1,6 +1,7 @@
 //! What every layer says of a file: its kind, a part of it, and its measured levels.
-ghost use Rattle.std.specs.Prelude.{◌≡◌};
+ghost use Rattle.std.specs.Prelude.{◌≡◌, ◌≤◌, ◌<◌, ◌+◌, ◌-◌, ◌^◌, length};
 ghost use Rattle.lib_base.specs.Kinds.{kind_named};
+ghost use Rattle.lib_base.specs.Sounds.{part};
 
 use crate::Energies;
 
@@ -9,6 +10,17 @@ use crate::Energies;
 pub struct Span {
     pub start: usize,
     pub end: usize,
+}
+
+/// The bytes that lie in a span.
+pub fn content_of(bytes: &[u8], span: Span) -> &[u8]
+    requires ordered { span.start ≤ span.end }
+    requires inside { span.end ≤ length bytes.now }
+    ensures content { result.now ≡ part bytes.now span.start (span.end - span.start) }
+    ensures short { span.start + length result.now < 2 ^ 63 }
+{
+    let rest = bytes.split_at(span.start).1;
+    rest.split_at(span.end - span.start).0
 }
 
 /// The kinds of file that the library holds.

@@ -11,6 +11,7 @@ mod files;
 mod limits;
 mod outcomes;
 mod plans;
+mod samples;
 mod sinks;
 mod sounds;
 mod sources;
@@ -20,10 +21,15 @@ mod tests;
 mod values;
 
 pub use doors::{Door, MemDoor};
-pub use files::{Kind, Measured, Span, Summary, kind_of};
-pub use limits::{MOST_CHANNELS, SAMPLE_RATE};
+pub use files::{Kind, Measured, Span, Summary, content_of, kind_of};
+pub use limits::{
+    BLOCK_SEGMENTS, FULL_POWER, GREATEST_DEPTH, GREATEST_ENERGY, GREATEST_PEAK, LEAST_DEPTH,
+    MOST_CHANNELS, MOST_MEMBERS, MOST_SAMPLES, MOST_SEGMENTS, NUMBERS_END, PEAK_REACH, SAMPLE_RATE,
+    SEGMENT_FRAMES, WINDOW_SEGMENTS,
+};
 pub use outcomes::{Broken, Failed, Memory, Outside, Refused, Rule};
 pub use plans::FaultPlan;
+pub use samples::scaled;
 pub use sinks::{MemSink, Sink, write_all};
 pub use sounds::{PIECE, PcmSound, Scratch, Sound};
 pub use sources::{MemSource, ReadEnd, Source, Taken, read_up_to};

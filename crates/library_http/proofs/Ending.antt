@@ -1,130 +1,130 @@
--- How a session ends, and what it did by then.
-use Rattle.std.proofs.Common.{◌≡◌, ◌≢◌, ◌≤◌, ◌+◌, ◌⊎◌, ℕ, List, [], length, Option, None, Some, refl, sym, subst, true, inl, inr, arith}
-use Rattle.std.specs.Io.KnownBytes.{Consumes, IsAtEnd}
-use Rattle.lib_base.specs.Faults.{Rose}
-use Rattle.lib_base.specs.Sources.{SourceView}
-use Rattle.lib_base.specs.Writes.{SinkView}
-use Rattle.lib_base.specs.declared.sources.ReadEnd.{ReadEnd}
-use Rattle.lib_base.specs.declared.sources.ReadEnd.TheVariants.{End, Full, Fault}
-use Rattle.http_model.specs.declared.refusals.FramingRefusal.TheVariants.{Frame, Size}
-use Rattle.http_model.specs.Framing.{input_limit, ended, unframeable}
+-- How a session ends, one request in front of others.
+use Rattle.std.proofs.Common.{◌≡◌, inl, inr, ℕ, suc, false, Option, List, [], ◌∷◌, ◌++◌, sym, ap, subst, append_assoc, append-nil}
+use Rattle.std.specs.Io.KnownBytes.{Appends}
+use Rattle.std.proofs.KnownBytes.{Appends-trans}
+use Rattle.library_model.specs.declared.messages.Reply.{Reply}
+use Rattle.http_model.specs.Exchanges.{Exchange, exchange, requests_of, spelled_of, spelled_to, spelled_all, ending, output}
+use Rattle.http_model.specs.Requests.{AreRequests, End, Framed, Frames, IsFront, closes, ended, turns, unframeable}
 use Rattle.http_model.specs.Refusals.{framing_refusal}
-use Rattle.http_model.specs.Spelling.{spelled}
-use Rattle.library_model.specs.State.{State}
-use Rattle.catalogue_core.specs.Kept.{Keeps}
+use Rattle.library_http.proofs.Fronts.{AreRequests-cons, IsFront-cons}
+use Rattle.http_inbox.specs.Inboxes.{Covers}
+use Rattle.http_inbox.proofs.CoversLaws.{Covers-all}
 use Rattle.library_http.specs.declared.serving.How.{How}
-use Rattle.library_http.specs.declared.serving.How.TheVariants.{Ended, Unframeable, SourceFault, SinkFault, Memory}
-use Rattle.library_http.specs.declared.serving.Stop.{Stop}
-use Rattle.library_http.specs.declared.serving.Stop.TheVariants.{AtEnd, AtRefusal, AtSinkFault, AtMemory}
-use Rattle.library_http.specs.Sessions.{EndsAfter, EndsBy, Session, Stops}
-use Rattle.library_http.specs.World.{World}
-use Rattle.library_http.proofs.Goings.{Appends-none}
-use Rattle.library_http.proofs.ServingLemmas.{Leads-same, Counts-none, Answered-too-long, BreaksOff-refusal, BreaksOff-reply, Appends-ended, Appends-refused}
+use Rattle.library_http.specs.declared.serving.How.TheVariants.{Ended, Turns, Unframeable, SourceFault, SinkFault, Memory}
+use Rattle.library_http.specs.Sessions.{BreaksOff, BreaksOffAtEnd, CutShort, EndsAs, Unread, Whole}
+use Rattle.library_http.proofs.Goings.{Appends-part}
 
--- nothing was taken
-pub Consumes-none : (a : Option (List ℕ)) → Consumes a a []
-Consumes-none None = tt
-Consumes-none (Some xs) = refl
+-- ---- bytes however they go on
 
--- a session that found no memory to read into did nothing
-pub Session-unread : (start : State) (source : SourceView) (sink : SinkView) (w : World) → Keeps w.library start
-    → Session start Memory 0 source source sink sink w w
-Session-unread start source sink w keeps = (
-  [],
-  Consumes-none source.left,
-  inr (record {
-    nothing = refl;
-    none = refl;
-    written = Appends-none sink.written;
-    leads = Leads-same start w keeps;
-    counts = Counts-none w;
-    calls = refl;
-  }),
-)
+-- A request begins bytes, and others follow it, however both go on.
+abbrev pub Precedes : (input behind : List ℕ) → Framed → Type 0
+Precedes input behind q = (more : List ℕ) → Frames (input ++ more) q (behind ++ more)
 
--- an input that is too long is refused alone
-pub Session-too-long : (start : State) (how : How) (source rest : SourceView) (sink0 sink1 : SinkView) (input : List ℕ) (w : World)
-    → Keeps w.library start → length input ≡ input_limit + 1 → Consumes source.left rest.left input
-    → EndsBy how (spelled true (framing_refusal Size)) sink0 sink1 → Session start how 0 source rest sink0 sink1 w w
-Session-too-long start Ended source rest sink0 sink1 input w keeps long took ends = absurd ends
-Session-too-long start SourceFault source rest sink0 sink1 input w keeps long took ends = absurd ends
-Session-too-long start Unframeable source rest sink0 sink1 input w keeps long took ends = (
-  input,
-  took,
-  omega arith,
-  (λ within. absurd (omega arith)),
-  framing_refusal Size,
-  [],
-  ends,
-  Answered-too-long start input w keeps (omega arith),
-)
-Session-too-long start SinkFault source rest sink0 sink1 input w keeps long took ends = (
-  input,
-  took,
-  BreaksOff-refusal start input (framing_refusal Size) 0 [] source rest sink0 sink0 sink1 w w (omega arith)
-      (λ within. absurd (omega arith)) (Answered-too-long start input w keeps (omega arith)) (Appends-none sink0.written) ends,
-)
-Session-too-long start Memory source rest sink0 sink1 input w keeps long took ends = (
-  input,
-  took,
-  inl (BreaksOff-refusal start input (framing_refusal Size) 0 [] source rest sink0 sink0 sink1 w w (omega arith)
-      (λ within. absurd (omega arith)) (Answered-too-long start input w keeps (omega arith)) (Appends-none sink0.written) ends),
-)
+-- so it is of the bytes as they are
+frames_now : (input behind : List ℕ) (q : Framed) → Precedes input behind q → Frames input q behind
+frames_now input behind q precedes =
+    subst (λ (bytes : List ℕ). Frames bytes q behind) (append-nil input)
+    (subst (Frames (input ++ []) q) (append-nil behind) (precedes []))
 
--- a refusal that ends a whole input
-Session-refused : (start : State) (how : How) (n : ℕ) (source rest : SourceView) (sink0 sink1 sink2 : SinkView) (input : List ℕ) (w0 w1 : World)
-    → length input ≤ input_limit → Consumes source.left rest.left input → IsAtEnd rest.left → Stops start input AtRefusal n sink0 sink1 w0 w1
-    → EndsBy how (spelled true (framing_refusal Frame)) sink1 sink2 → Session start how n source rest sink0 sink2 w0 w1
-Session-refused start Ended n source rest sink0 sink1 sink2 input w0 w1 short took at_end stops ends = absurd ends
-Session-refused start SourceFault n source rest sink0 sink1 sink2 input w0 w1 short took at_end stops ends = absurd ends
-Session-refused start Unframeable n source rest sink0 sink1 sink2 input w0 w1 short took at_end stops ends = (
-  input,
-  took,
-  omega arith,
-  (λ _. at_end),
-  framing_refusal Frame,
-  stops.0,
-  Appends-refused sink0.written sink1.written sink2.written stops.0 (framing_refusal Frame) stops.1 ends,
-  stops.2,
-)
-Session-refused start SinkFault n source rest sink0 sink1 sink2 input w0 w1 short took at_end stops ends =
-    (input, took, BreaksOff-refusal start input (framing_refusal Frame) n stops.0 source rest sink0 sink1 sink2 w0 w1 (omega arith) (λ _. at_end) stops.2 stops.1 ends)
-Session-refused start Memory n source rest sink0 sink1 sink2 input w0 w1 short took at_end stops ends =
-    (input, took, inl (BreaksOff-refusal start input (framing_refusal Frame) n stops.0 source rest sink0 sink1 sink2 w0 w1 (omega arith) (λ _. at_end) stops.2 stops.1 ends))
+-- ---- one request in front
 
--- an end that writes nothing more
-ends_so : (start : State) (how so : How) (n : ℕ) (source rest : SourceView) (sink0 sink1 sink2 : SinkView) (w0 w1 : World)
-    → how ≡ so → sink2 ≡ sink1 → Session start so n source rest sink0 sink1 w0 w1 → Session start how n source rest sink0 sink2 w0 w1
-ends_so start how so n source rest sink0 sink1 sink2 w0 w1 is same session =
-    subst (λ (h : How). Session start h n source rest sink0 sink2 w0 w1) (sym is)
-    (subst (λ (t : SinkView). Session start so n source rest sink0 t w0 w1) (sym same) session)
+-- All the requests behind one that stays are all with it.
+requests_cons : (most : ℕ) (end : End) (left : Option (List ℕ)) (input behind : List ℕ) (q : Framed) (others : List Framed)
+    → Precedes input behind q → closes q.head ≡ false → Covers left behind (λ bytes. AreRequests most bytes others end)
+    → Covers left input (λ bytes. AreRequests (suc most) bytes (q ∷ others) end)
+requests_cons most end left input behind q others precedes stays =
+    Covers-all left behind input (λ bytes. AreRequests most bytes others end) (λ bytes. AreRequests (suc most) bytes (q ∷ others) end)
+    (λ more are. AreRequests-cons most (input ++ more) (behind ++ more) q others end (precedes more) stays are)
 
--- an input that is not too long was read to the source's end, or up to a fault
-read_so : (end : ReadEnd) (rest source : SourceView) → (end ≡ End → IsAtEnd rest.left) → (end ≡ Fault → Rose source.faults rest.faults) → end ≢ Full
-    → IsAtEnd rest.left ⊎ Rose source.faults rest.faults
-read_so End rest source at_end rose whole = inl (at_end refl)
-read_so Fault rest source at_end rose whole = inr (rose refl)
-read_so Full rest source at_end rose whole = absurd (whole refl)
+-- A front of them is one with it.
+front_cons : (most : ℕ) (left : Option (List ℕ)) (input behind : List ℕ) (q : Framed) (others : List Framed)
+    → Precedes input behind q → closes q.head ≡ false → Covers left behind (λ bytes. IsFront most bytes others)
+    → Covers left input (λ bytes. IsFront (suc most) bytes (q ∷ others))
+front_cons most left input behind q others precedes stays =
+    Covers-all left behind input (λ bytes. IsFront most bytes others) (λ bytes. IsFront (suc most) bytes (q ∷ others))
+    (λ more are. IsFront-cons most (input ++ more) (behind ++ more) q others (precedes more) stays are)
 
--- a session whose serving stopped, and that then ended
-pub Session-after : (start : State) (stop : Stop) (end : ReadEnd) (how : How) (n : ℕ) (source rest : SourceView) (sink0 sink1 sink2 : SinkView)
-    (input : List ℕ) (w0 w1 : World) → length input ≤ input_limit → Consumes source.left rest.left input → (end ≡ End → IsAtEnd rest.left)
-    → (end ≡ Fault → Rose source.faults rest.faults) → end ≢ Full
-    → Stops start input stop n sink0 sink1 w0 w1 → EndsAfter stop end how sink1 sink2 → Session start how n source rest sink0 sink2 w0 w1
-Session-after start AtSinkFault end how n source rest sink0 sink1 sink2 input w0 w1 short took at_end rose whole stops ends =
-    ends_so start how SinkFault n source rest sink0 sink1 sink2 w0 w1 ends.0 ends.1
-    (input, took, BreaksOff-reply start input n source rest sink0 sink1 w0 w1 short (read_so end rest source at_end rose whole) stops)
-Session-after start AtMemory end how n source rest sink0 sink1 sink2 input w0 w1 short took at_end rose whole stops ends =
-    ends_so start how Memory n source rest sink0 sink1 sink2 w0 w1 ends.0 ends.1
-    (input, took, inl (BreaksOff-reply start input n source rest sink0 sink1 w0 w1 short (read_so end rest source at_end rose whole) stops))
-Session-after start AtEnd Fault how n source rest sink0 sink1 sink2 input w0 w1 short took at_end rose whole stops ends =
-    ends_so start how SourceFault n source rest sink0 sink1 sink2 w0 w1 ends.0 ends.1 (input, took, short, ended, stops.0, stops.1, stops.2)
-Session-after start AtEnd End how n source rest sink0 sink1 sink2 input w0 w1 short took at_end rose whole stops ends =
-    ends_so start how Ended n source rest sink0 sink1 sink2 w0 w1 ends.0 ends.1
-    (input, took, at_end refl, stops.0, Appends-ended sink0.written sink1.written stops.0 stops.1, stops.2)
-Session-after start AtEnd Full how n source rest sink0 sink1 sink2 input w0 w1 short took at_end rose whole stops ends = absurd (whole refl)
-Session-after start AtRefusal Fault how n source rest sink0 sink1 sink2 input w0 w1 short took at_end rose whole stops ends =
-    ends_so start how SourceFault n source rest sink0 sink1 sink2 w0 w1 ends.0 ends.1 (input, took, short, unframeable (framing_refusal Frame), stops.0, stops.1, stops.2)
-Session-after start AtRefusal End how n source rest sink0 sink1 sink2 input w0 w1 short took at_end rose whole stops ends =
-    Session-refused start how n source rest sink0 sink1 sink2 input w0 w1 short took (at_end refl) stops ends
-Session-after start AtRefusal Full how n source rest sink0 sink1 sink2 input w0 w1 short took at_end rose whole stops ends = absurd (whole refl)
+whole_cons : (most : ℕ) (end : End) (answered : ℕ) (left : Option (List ℕ)) (input behind : List ℕ) (q : Framed) (reply : Reply)
+    (exchanges : List Exchange) (old mid new : Option (List ℕ)) → Precedes input behind q → closes q.head ≡ false
+    → Appends old mid (spelled_to q reply) → Whole most end answered left behind exchanges mid new
+    → Whole (suc most) end (suc answered) left input (exchange q reply ∷ exchanges) old new
+whole_cons most end answered left input behind q reply exchanges old mid new precedes stays written whole = record {
+  requests = requests_cons most end left input behind q (requests_of exchanges) precedes stays whole.requests;
+  counted = ap suc whole.counted;
+  written = subst (Appends old new) (sym (append_assoc (spelled_to q reply) (spelled_all exchanges) (ending end)))
+      (Appends-trans old mid new (spelled_to q reply) (output exchanges end) written whole.written);
+}
+
+cut_cons : (most answered : ℕ) (input behind : List ℕ) (q : Framed) (reply : Reply)
+    (exchanges : List Exchange) (old mid new : Option (List ℕ)) → Precedes input behind q → closes q.head ≡ false
+    → Appends old mid (spelled_to q reply) → CutShort most answered behind exchanges mid new
+    → CutShort (suc most) (suc answered) input (exchange q reply ∷ exchanges) old new
+cut_cons most answered input behind q reply exchanges old mid new precedes stays written cut = record {
+  requests = record {
+    end = cut.requests.end;
+    are = AreRequests-cons most input behind q (requests_of exchanges) cut.requests.end (frames_now input behind q precedes) stays
+        cut.requests.are;
+    stay = (stays, cut.requests.stay);
+    cut = cut.requests.cut;
+  };
+  counted = ap suc cut.counted;
+  written = Appends-trans old mid new (spelled_to q reply) (spelled_all exchanges) written cut.written;
+}
+
+breaks_cons : (most answered : ℕ) (left : Option (List ℕ)) (input behind : List ℕ) (q : Framed) (reply : Reply)
+    (exchanges : List Exchange) (old mid new : Option (List ℕ)) → Precedes input behind q → closes q.head ≡ false
+    → Appends old mid (spelled_to q reply) → BreaksOff most answered left behind exchanges mid new
+    → BreaksOff (suc most) (suc answered) left input (exchange q reply ∷ exchanges) old new
+breaks_cons most answered left input behind q reply exchanges old mid new precedes stays written breaks = record {
+  whole = exchange q reply ∷ breaks.whole;
+  last = breaks.last;
+  are = ap (λ (es : List Exchange). exchange q reply ∷ es) breaks.are;
+  requests = front_cons most left input behind q (requests_of exchanges) precedes stays breaks.requests;
+  counted = ap suc breaks.counted;
+  written = Appends-part old mid new (spelled_to q reply) (spelled_all breaks.whole) (spelled_of breaks.last) written breaks.written;
+}
+
+breaks_at_end_cons : (most answered : ℕ) (left : Option (List ℕ)) (input behind : List ℕ) (q : Framed) (reply : Reply)
+    (exchanges : List Exchange) (old mid new : Option (List ℕ)) → Precedes input behind q → closes q.head ≡ false
+    → Appends old mid (spelled_to q reply) → BreaksOffAtEnd most answered left behind exchanges mid new
+    → BreaksOffAtEnd (suc most) (suc answered) left input (exchange q reply ∷ exchanges) old new
+breaks_at_end_cons most answered left input behind q reply exchanges old mid new precedes stays written breaks = record {
+  cause = breaks.cause;
+  requests = requests_cons most (unframeable (framing_refusal breaks.cause)) left input behind q (requests_of exchanges) precedes stays breaks.requests;
+  counted = ap suc breaks.counted;
+  written = Appends-part old mid new (spelled_to q reply) (spelled_all exchanges) (ending (unframeable (framing_refusal breaks.cause))) written breaks.written;
+}
+
+unread_cons : (most answered : ℕ) (left : Option (List ℕ)) (input behind : List ℕ) (q : Framed) (reply : Reply)
+    (exchanges : List Exchange) (old mid new : Option (List ℕ)) → Precedes input behind q → closes q.head ≡ false
+    → Appends old mid (spelled_to q reply) → Unread most answered left behind exchanges mid new
+    → Unread (suc most) (suc answered) left input (exchange q reply ∷ exchanges) old new
+unread_cons most answered left input behind q reply exchanges old mid new precedes stays written unread = record {
+  requests = front_cons most left input behind q (requests_of exchanges) precedes stays unread.requests;
+  counted = ap suc unread.counted;
+  written = Appends-trans old mid new (spelled_to q reply) (spelled_all exchanges) written unread.written;
+}
+
+-- A request that stays was answered and replied to, and serving the rest ended so: so did serving it with the rest.
+pub EndsAs-cons : (how : How) (most answered : ℕ) (left : Option (List ℕ)) (input behind : List ℕ) (q : Framed) (reply : Reply)
+    (exchanges : List Exchange) (old mid new : Option (List ℕ)) → Precedes input behind q → closes q.head ≡ false
+    → Appends old mid (spelled_to q reply) → EndsAs how most answered left behind exchanges mid new
+    → EndsAs how (suc most) (suc answered) left input (exchange q reply ∷ exchanges) old new
+EndsAs-cons Ended most answered left input behind q reply exchanges old mid new precedes stays written ends =
+    whole_cons most ended answered left input behind q reply exchanges old mid new precedes stays written ends
+EndsAs-cons Turns most answered left input behind q reply exchanges old mid new precedes stays written ends =
+    whole_cons most turns answered left input behind q reply exchanges old mid new precedes stays written ends
+EndsAs-cons Unframeable most answered left input behind q reply exchanges old mid new precedes stays written ends =
+    (ends.0, whole_cons most (unframeable (framing_refusal ends.0)) answered left input behind q reply exchanges old mid new precedes stays written ends.1)
+EndsAs-cons SourceFault most answered left input behind q reply exchanges old mid new precedes stays written ends =
+    cut_cons most answered input behind q reply exchanges old mid new precedes stays written ends
+EndsAs-cons SinkFault most answered left input behind q reply exchanges old mid new precedes stays written (inl ends) =
+    inl (breaks_cons most answered left input behind q reply exchanges old mid new precedes stays written ends)
+EndsAs-cons SinkFault most answered left input behind q reply exchanges old mid new precedes stays written (inr ends) =
+    inr (breaks_at_end_cons most answered left input behind q reply exchanges old mid new precedes stays written ends)
+EndsAs-cons Memory most answered left input behind q reply exchanges old mid new precedes stays written (inl ends) =
+    inl (breaks_cons most answered left input behind q reply exchanges old mid new precedes stays written ends)
+EndsAs-cons Memory most answered left input behind q reply exchanges old mid new precedes stays written (inr (inl ends)) =
+    inr (inl (breaks_at_end_cons most answered left input behind q reply exchanges old mid new precedes stays written ends))
+EndsAs-cons Memory most answered left input behind q reply exchanges old mid new precedes stays written (inr (inr ends)) =
+    inr (inr (unread_cons most answered left input behind q reply exchanges old mid new precedes stays written ends))

@@ -1,11 +1,14 @@
 -- How ghost values go on over several calls: contents, written bytes and counts.
-use Rattle.std.proofs.Common.{◌≢◌, ◌≡◌, ℕ, ◌+◌, Option, None, Some, List, [], ◌++◌, Result, Err, refl, sym, subst, arith}
+use Rattle.std.proofs.Common.{◌≡◌, ◌≤◌, ℕ, ◌+◌, Option, None, Some, List, [], ◌∷◌, ◌++◌, refl, sym, ap, subst, append_assoc, arith}
+use Rattle.std.specs.List.{AllByRecursion}
 use Rattle.std.specs.Io.KnownBytes.{Appends}
-use Rattle.std.proofs.KnownBytes.{Appends-nil, Appends-trans}
+use Rattle.std.proofs.KnownBytes.{Appends-trans}
+use Rattle.keeper_store.specs.Blobs.{Blobs}
 use Rattle.keeper_store.specs.Goes.{Goes}
-use Rattle.lib_base.specs.declared.outcomes.Outside.{Outside}
-use Rattle.lib_base.specs.declared.outcomes.Outside.TheVariants as outside
-use Rattle.lib_base.specs.Writes.{AppendsPart, SinkView, WritesAll}
+use Rattle.lib_base.specs.Faults.{Rose}
+use Rattle.lib_base.specs.Writes.{AppendsPart}
+use Rattle.library_http.specs.Acts.{count_held, held}
+use Rattle.library_http.specs.Sessions.{AppendsInPart}
 use Rattle.library_http.specs.World.{RoseBy}
 
 -- ---- contents
@@ -30,37 +33,49 @@ Goes-weaker P Q weaker None b p = tt
 Goes-weaker P Q weaker (Some x) None p = absurd p
 Goes-weaker P Q weaker (Some x) (Some y) p = weaker x y p
 
+-- What goes on in two ways goes on as the two together say.
+pub Goes-both : {A : Type 0} (P Q R : A → A → Type 0) → ((x y : A) → P x y → Q x y → R x y)
+    → (a b : Option A) → Goes P a b → Goes Q a b → Goes R a b
+Goes-both P Q R joined None b p q = tt
+Goes-both P Q R joined (Some x) None p q = absurd p
+Goes-both P Q R joined (Some x) (Some y) p q = joined x y p q
+
 -- ---- written bytes
 
--- Bytes were written, and then others.
-pub Appends-then : (a b c : Option (List ℕ)) (xs ys : List ℕ) → Appends a b xs → Appends b c ys → Appends a c (xs ++ ys)
-Appends-then a b c xs ys p q = Appends-trans a b c xs ys p q
+-- Bytes were written, and then others, of which a part is left.
+pub Appends-part : (a b c : Option (List ℕ)) (xs others text : List ℕ) → Appends a b xs → AppendsInPart others text b c
+    → AppendsInPart (xs ++ others) text a c
+Appends-part a b c xs others text p q =
+    (q.0, q.1, q.2, q.3, subst (Appends a c) (sym (append_assoc xs others q.0)) (Appends-trans a b c xs (others ++ q.0) p q.4))
 
--- Nothing was written.
-pub Appends-none : (a : Option (List ℕ)) → Appends a a []
-Appends-none a = Appends-nil a
-
--- Bytes were written, and then a part of others.
-pub Appends-then-part : (a b c : Option (List ℕ)) (xs ys : List ℕ) → Appends a b xs → AppendsPart b c ys
-    → (part : List ℕ) × (unwritten : List ℕ) × (ys ≡ part ++ unwritten) × (unwritten ≢ []) × Appends a c (xs ++ part)
-Appends-then-part a b c xs ys p q = (q.0, q.1, q.2, q.3, Appends-trans a b c xs q.0 p q.4)
-
--- Want of memory before anything was written.
-pub WritesAll-none : {T : Type 0} (sink : SinkView) (bytes : List ℕ) (r : Result T Outside) → r ≡ Err outside.Memory → bytes ≢ []
-    → WritesAll sink sink bytes r
-WritesAll-none {T} sink bytes r is some =
-    subst (λ (o : Result T Outside). WritesAll sink sink bytes o) (sym is) (record {
-      whole = tt;
-      part = ([], bytes, refl, some, Appends-none sink.written);
-      faults = record { later = omega arith; cause = λ failed. absurd (cc failed) };
-    })
+-- The same where nothing but the text was due.
+pub Appends-part_only : (a b c : Option (List ℕ)) (xs text : List ℕ) → Appends a b xs → AppendsPart b c text → AppendsInPart xs text a c
+Appends-part_only a b c xs text p q = (q.0, q.1, q.2, q.3, Appends-trans a b c xs q.0 p q.4)
 
 -- ---- counts
 
--- A count rose by so many, and then by so many more.
-pub RoseBy-then : (a b x y z : ℕ) → RoseBy a x y → RoseBy b y z → RoseBy (a + b) x z
-RoseBy-then a b x y z p q = omega arith
+-- A count that did not fall rose by none.
+pub RoseBy-none : (a x y : ℕ) → a ≡ 0 → x ≤ y → RoseBy a x y
+RoseBy-none a x y none later = omega arith
 
--- A count stayed.
-pub RoseBy-none : (x : ℕ) → RoseBy 0 x x
-RoseBy-none x = omega arith
+-- One that rose has risen by one.
+pub RoseBy-one : (a x y : ℕ) → a ≤ 1 → Rose x y → RoseBy a x y
+RoseBy-one a x y one rose = omega arith
+
+-- ---- keys that hold something
+
+-- Of two lists of keys as many hold something as of each.
+pub count_held-append : (blobs : Blobs) (xs ys : List ℕ) → count_held blobs (xs ++ ys) ≡ count_held blobs xs + count_held blobs ys
+count_held-append blobs [] ys = omega arith
+count_held-append blobs (x ∷ xs) ys =
+    let rest = count_held-append blobs xs ys in
+    omega (arith, rest)
+
+-- Keys that hold what they held are as many.
+pub count_held-same : (old new : Blobs) (keys : List ℕ) → AllByRecursion (λ key. new key ≡ old key) keys
+    → count_held new keys ≡ count_held old keys
+count_held-same old new [] same = refl
+count_held-same old new (key ∷ keys) same =
+    let rest = count_held-same old new keys same.1 in
+    let first : held (new key) ≡ held (old key) = ap held same.0 in
+    omega (arith, rest, first)

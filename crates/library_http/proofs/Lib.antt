@@ -1,9 +1,10 @@
-pub mod Acting
-pub mod DigitLemmas
-pub mod Ending
-pub mod FieldLemmas
-pub mod FramingLemmas
-pub mod Goings
-pub mod NumberLemmas
-pub mod ServingLemmas
-pub mod SpellingLemmas
+mod Acting
+mod Ending
+mod Framing
+mod Fronts
+mod Goings
+mod Making
+mod Releases
+mod Replying
+mod Served
+mod Turning

@@ -1,5 +1,5 @@
-pub mod Fields
-pub mod Framed
-pub mod Heads
+pub mod Acts
+pub mod Framings
 pub mod Sessions
+pub mod Turns
 pub mod World

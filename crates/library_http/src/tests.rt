@@ -1,229 +1,99 @@
-//! Requests, replies, and whole sessions.
-use crate::{Framed, How, SessionEnd, frame, memory_reply, session, spell, spell_head};
+//! When a session reads its source.
+ghost use Rattle.std.specs.Prelude.{None};
+ghost use Rattle.std.specs.Io.{ReadsAtMost};
+ghost use Rattle.std.specs.Io.KnownBytes.{ReadConsumes};
+
+use crate::{How, SessionEnd, session};
 use catalogue_core::Library;
-use http_routes::Route;
 use keeper_store::{MemKeeper, MemVault, Tables};
-use lib_base::{Bytes, MemSink, MemSource, Memory, Span};
-use library_model::{BodyKind, Question, Reply};
-use std::alloc::{AllocError, Global};
+use lib_base::{Bytes, Failed, MemSink, MemSource, Outside, Sink, Source};
+use std::sync::atomic::{AtomicU64, Ordering};
 use std::test::Fail;
 
-fn import(start: usize, end: usize) -> Framed {
-    Framed::Import(Span { start, end })
+/// A request after which the session goes on, and one that asks to close.
+const STAYS: &[u8] = b"GET /albums/1 HTTP/1.1\r\nHost: a\r\n\r\n";
+
+const CLOSES: &[u8] = b"GET /albums/1 HTTP/1.1\r\nHost: a\r\nConnection: close\r\n\r\n";
+
+/// A source of two requests. The second is there only once a reply was written: before that a read
+/// behind the first fails.
+#[derive(Drop)]
+struct Asking<'a> {
+    first: MemSource,
+    second: MemSource,
+    replies: &'a AtomicU64,
+    faults: u64,
 }
 
-fn question(id: u32, end: usize) -> Framed {
-    Framed::Question {
-        question: Question::Recording(id),
-        end,
-    }
-}
+impl Source for Asking<'_> {
+    ghost use Rattle.std.specs.Prelude.{None};
 
-#[test]
-fn frames(rt: HostRuntime) {
-    for (bytes, want) in [
-        ("", Framed::Ended),
-        (
-            "POST /recordings HTTP/1.1\r\nContent-Length: 3\r\n\r\nabcX",
-            import(48, 51),
-        ),
-        (
-            "POST /recordings HTTP/1.1\r\ncontent-length: 0000003\r\n\r\nabc",
-            import(54, 57),
-        ),
-        (
-            "\r\nPOST /recordings HTTP/1.1\r\nA: b\r\nContent-Length: 3\r\n\r\nabc",
-            import(56, 59),
-        ),
-        (
-            "POST /recordings HTTP/1.1\r\nContent-Length: 3\r\n\r\nab",
-            Framed::Unframeable,
-        ),
-        (
-            "POST /recordings HTTP/1.1\r\nContent-Length: 3\r\nContent-Length: 3\r\n\r\nabc",
-            Framed::Unframeable,
-        ),
-        ("POST /recordings HTTP/1.1\r\n\r\nabc", Framed::Unframeable),
-        (
-            "POST /recordings HTTP/1.1\r\nContent-Length: 00000003\r\n\r\nabc",
-            Framed::Unframeable,
-        ),
-        (
-            "POST /recordings HTTP/1.1\r\nContent-Length: 5x\r\n\r\nabcdefgh",
-            Framed::Unframeable,
-        ),
-        (
-            "GET /recordings HTTP/1.1\r\nContent-Length: 3\r\n\r\nabc",
-            Framed::Unframeable,
-        ),
-        (
-            "GET /recordings/2147483646 HTTP/1.1\r\nContent-Length: 3\r\n\r\nabc",
-            question(2_147_483_646, 58),
-        ),
-        (
-            "GET /recordings/2147483647 HTTP/1.0\r\n\r\n",
-            question(0, 39),
-        ),
-        ("GET /recordings/ HTTP/1.1\r\n\r\n", question(0, 29)),
-        ("GET /recordings/07 HTTP/1.1\r\n\r\n", question(0, 31)),
-        ("GET /recordings/+7 HTTP/1.1\r\n\r\n", question(0, 31)),
-        ("GET /recordings/\u{e9} HTTP/1.1\r\n\r\n", question(0, 31)),
-        (
-            "GET /recordings/7/file HTTP/1.1\r\n\r\n",
-            Framed::Unframeable,
-        ),
-        ("HEAD /recordings/7 HTTP/1.1\r\n\r\n", Framed::Unframeable),
-        (
-            "POST /recording HTTP/1.1\r\nContent-Length: 3\r\n\r\nabc",
-            Framed::Unframeable,
-        ),
-        ("POST /recordings HTTP/1.1\r\n", Framed::Unframeable),
-    ] {
-        assert_eq!(rt; frame(bytes.as_bytes()), want, "at {bytes:?}");
-    }
-}
+    ghost shown = { λ s. record { left = None; faults = s.faults } };
 
-/// The start line, `count` times the line, and the lines that end a head with no body.
-fn head_of(alloc: Global, line: &str, count: usize, last: &str) -> Result<String, AllocError> {
-    let mut text = String::from_str(alloc, "POST /recordings HTTP/1.1\r\n")?;
-    for _ in 0..count {
-        text.push_str(line)?;
-    }
-    text.push_str(last)?;
-    Ok(text)
-}
-
-#[test]
-fn limits_heads(rt: HostRuntime) -> Result<(), Fail> {
-    let last = "Content-Length: 0\r\n\r\n";
-    for (count, want) in [(31, import(234, 234)), (32, Framed::Unframeable)] {
-        let text = head_of(rt.alloc(), "A: b\r\n", count, last)?;
-        assert_eq!(rt; frame(text.as_bytes()), want, "{count} lines");
-    }
-    for (count, want) in [(8139, import(8192, 8192)), (8140, Framed::Unframeable)] {
-        let mut text = head_of(rt.alloc(), "Content-Length: 0\r\nA: ", 1, "")?;
-        for _ in 0..count {
-            text.push_str("a")?;
+    fn read(&mut self, into: &mut [u8]) -> Result<usize, Failed> {
+        let read = give(self.replies, &mut self.first, &mut self.second, into);
+        if read.is_err() {
+            self.faults = self.faults.saturating_add(1);
         }
-        text.push_str("\r\n\r\n")?;
-        assert_eq!(rt; frame(text.as_bytes()), want, "{count} bytes");
+        read
     }
-    Ok(())
 }
 
-fn reply_of(alloc: Global, status: u16, body: &str) -> Result<Reply, Memory> {
-    Ok(Reply {
-        status,
-        kind: BodyKind::Json,
-        body: Bytes::copy(alloc, body.as_bytes())?,
-    })
-}
-
-#[test]
-fn spells(rt: HostRuntime) -> Result<(), Fail> {
-    let refused = reply_of(rt.alloc(), 409, "{\"error\":\"ids\"}")?;
-    let stays =
-        "HTTP/1.1 409 Conflict\r\nContent-Type: application/json\r\nContent-Length: 15\r\n\r\n{\"error\":\"ids\"}";
-    let closes =
-        "HTTP/1.1 409 Conflict\r\nContent-Type: application/json\r\nContent-Length: 15\r\nConnection: close\r\n\r\n{\"error\":\"ids\"}";
-    assert_eq!(rt;
-        spell(rt.alloc(), &refused, false)?.as_slice(),
-        stays.as_bytes()
-    );
-    assert_eq!(rt;
-        spell(rt.alloc(), &refused, true)?.as_slice(),
-        closes.as_bytes()
-    );
-    let memory = reply_of(rt.alloc(), 503, "{\"error\":\"memory\"}")?;
-    assert_eq!(rt;
-        spell(rt.alloc(), &memory, false)?.as_slice(),
-        memory_reply()
-    );
-    Ok(())
-}
-
-#[test]
-fn allows_methods(rt: HostRuntime) -> Result<(), Fail> {
-    let method = reply_of(rt.alloc(), 405, "{\"error\":\"method\"}")?;
-    for (allows, closes, want) in [
-        (
-            Some(Route::Album),
-            false,
-            "HTTP/1.1 405 Method Not Allowed\r\nContent-Type: application/json\r\nAllow: GET, DELETE\r\nContent-Length: 18\r\n\r\n",
-        ),
-        (
-            None,
-            true,
-            "HTTP/1.1 405 Method Not Allowed\r\nContent-Type: application/json\r\nContent-Length: 18\r\nConnection: close\r\n\r\n",
-        ),
-    ] {
-        let head = spell_head(rt.alloc(), &method, allows, closes)?;
-        assert_eq!(rt; head.as_str(), want, "{allows:?} {closes}");
+/// Gives bytes of the second request where a reply was written, and else of the first.
+fn give(
+    replies: &AtomicU64,
+    first: &mut MemSource,
+    second: &mut MemSource,
+    into: &mut [u8],
+) -> Result<usize, Failed>
+    ensures within { ReadsAtMost result into.new }
+    ensures content { ReadConsumes None None result into.new }
+{
+    if replies.load(Ordering::SeqCst) > 0 {
+        return second.read(into);
     }
-    Ok(())
+    match first.read(into) {
+        Ok(0) => Err(Failed),
+        read => read,
+    }
 }
 
-/// An import of a wave of four samples: 0, 16384, -16384 and 1.
-const IMPORT: &[u8] =
-    b"POST /recordings HTTP/1.1\r\nContent-Length: 52\r\n\r\nRIFF\x2c\0\0\0WAVEfmt \x10\0\0\0\x01\0\x01\0\x80\xbb\0\0\0\x77\x01\0\x02\0\x10\0data\x08\0\0\0\0\0\0\x40\0\xc0\x01\0";
-
-const CREATED: &str =
-    "HTTP/1.1 201 Created\r\nContent-Type: application/json\r\nContent-Length: 163\r\n\r\n{\"channels\":1,\"depth\":16,\"frames\":4,\"gain\":null,\"id\":1,\"kind\":\"wave\",\"loudness\":null,\"momentary\":null,\"peak\":\"0.537233\",\"range\":null,\"short\":null,\"true_peak\":-540}";
-
-const CUT: &str =
-    "HTTP/1.1 400 Bad Request\r\nContent-Type: application/json\r\nContent-Length: 17\r\nConnection: close\r\n\r\n{\"error\":\"frame\"}";
-
-const VAULT: &str =
-    "HTTP/1.1 502 Bad Gateway\r\nContent-Type: application/json\r\nContent-Length: 17\r\n\r\n{\"error\":\"vault\"}";
-
-const KEEPER: &str =
-    "HTTP/1.1 504 Gateway Timeout\r\nContent-Type: application/json\r\nContent-Length: 18\r\n\r\n{\"error\":\"keeper\"}";
-
-/// Which call of each object fails, from 1, or none at 0. The first call of the keeper opens the
-/// library.
-#[derive(Clone, Copy, Debug)]
-struct Failing {
-    source: u32,
-    sink: u32,
-    keeper: u32,
-    vault: u32,
+/// A sink that tells the source of each write.
+#[derive(Drop)]
+struct Telling<'a> {
+    sink: MemSink,
+    replies: &'a AtomicU64,
 }
 
-const NONE: Failing = Failing {
-    source: 0,
-    sink: 0,
-    keeper: 0,
-    vault: 0,
-};
+impl Sink for Telling<'_> {
+    ghost shown = { λ s. ⟦<MemSink as Sink>⟧.shown s.sink };
 
+    fn write(&mut self, piece: &[u8]) -> Result<usize, Outside> {
+        self.replies.fetch_add(1, Ordering::SeqCst);
+        self.sink.write(piece)
+    }
+}
+
+// A body that reads all before it answers ends by the source's fault after the first request, and one
+// that reads on behind a request that closes takes bytes of the second.
 #[test]
-fn serves_sessions(rt: HostRuntime) -> Result<(), Fail> {
+fn answers_before_it_reads_on(rt: HostRuntime) -> Result<(), Fail> {
     let alloc = rt.alloc();
-    let cut = IMPORT.split_at(IMPORT.len() - 1).0;
-    for (input, failing, how, answered, want) in [
-        (IMPORT, NONE, How::Ended, 1, CREATED),
-        (cut, NONE, How::Unframeable, 0, CUT),
-        (IMPORT, Failing { sink: 1, ..NONE }, How::SinkFault, 0, ""),
-        (
-            IMPORT,
-            Failing { source: 1, ..NONE },
-            How::SourceFault,
-            0,
-            "",
-        ),
-        (IMPORT, Failing { vault: 1, ..NONE }, How::Ended, 1, VAULT),
-        (IMPORT, Failing { keeper: 2, ..NONE }, How::Ended, 1, KEEPER),
-    ] {
-        let mut source = MemSource::new(
-            Bytes::copy(alloc, input)?,
-            [failing.source].to_vec(alloc)?,
-        );
-        let mut sink = MemSink::new(alloc, [failing.sink].to_vec(alloc)?);
-        let mut vault = MemVault::new(alloc, [failing.vault].to_vec(alloc)?);
-        let mut keeper = MemKeeper::new(Tables::empty(alloc), [failing.keeper].to_vec(alloc)?);
-        let Ok(mut library) = Library::open(&rt, alloc, &mut keeper) else {
-            return Err("the library opens".into());
+    for (text, answered, left) in [(STAYS, 2, 0), (CLOSES, 1, STAYS.len())] {
+        let replies = AtomicU64::new(0);
+        let mut source = Asking {
+            first: MemSource::new(Bytes::copy(alloc, text)?, Vec::new(alloc)),
+            second: MemSource::new(Bytes::copy(alloc, STAYS)?, Vec::new(alloc)),
+            replies: &replies,
+            faults: 0,
         };
+        let mut sink = Telling {
+            sink: MemSink::new(alloc, Vec::new(alloc)),
+            replies: &replies,
+        };
+        let mut keeper = MemKeeper::new(Tables::empty(alloc), Vec::new(alloc));
+        let mut vault = MemVault::new(alloc, Vec::new(alloc));
+        let mut library = Library::open(&rt, alloc, &mut keeper)?;
         let end = session(
             &rt,
             alloc,
@@ -232,11 +102,12 @@ fn serves_sessions(rt: HostRuntime) -> Result<(), Fail> {
             &mut vault,
             &mut source,
             &mut sink,
-            4,
-            1_000_000,
+            1,
+            9,
         );
-        assert_eq!(rt; end, SessionEnd { how, answered }, "{failing:?}");
-        assert_eq!(rt; sink.written(), want.as_bytes(), "{failing:?}");
+        let how = How::Ended;
+        assert_eq!(rt; end, SessionEnd { how, answered });
+        assert_eq!(rt; source.second.read(&mut [0u8; 64]), Ok(left));
     }
     Ok(())
 }

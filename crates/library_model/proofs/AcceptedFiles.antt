@@ -6,6 +6,7 @@ use Rattle.lib_base.specs.Kinds.{kind_named}
 use Rattle.lib_base.specs.Sounds.{IsSound}
 use Rattle.lib_base.specs.declared.files.Kind.{Kind}
 use Rattle.lib_base.specs.declared.files.Kind.TheVariants.{Wave, Flac}
+use Rattle.lib_base.specs.declared.limits.TheConstants.{MOST_SAMPLES}
 use Rattle.file_model.specs.Files.{Reads, ReadsAs}
 use Rattle.file_model.specs.FlacFile.{IsFlac}
 use Rattle.file_model.specs.Pcm.{Pcm}
@@ -13,7 +14,6 @@ use Rattle.file_model.specs.Reading.{accepted}
 use Rattle.file_model.specs.Wave.{IsWave}
 use Rattle.file_model.proofs.Samples.{IsDepth}
 use Rattle.flac_stream.proofs.FileSounds.{IsFlac_few, IsFlac_sounds}
-use Rattle.sound_model.specs.Summaries.{most_frames}
 use Rattle.library_model.specs.Findings.{kind_of}
 use Rattle.library_model.specs.RowRules.{is_depth}
 use Rattle.library_model.specs.Stands.{IsWithinLimit}
@@ -23,7 +23,7 @@ use Rattle.library_model.proofs.WaveFiles.{frames_of_wave}
 pub record HasSound (kind : Kind) (file : List ℕ) (sound : Pcm) : Type 0 where
   pub is_sound : IsSound sound.lists sound.depth sound.frames
   pub depth : is_depth kind sound.depth ≡ true
-  pub frames : IsWithinLimit file → sound.frames ≤ most_frames
+  pub frames : IsWithinLimit file → sound.frames ≤ MOST_SAMPLES
 
 -- waves have 16 or 24 bits
 wave_depth : (depth : ℕ) → IsDepth depth → is_depth Wave depth ≡ true

@@ -4,16 +4,15 @@ use Rattle.std.specs.Prelude.{count_by}
 use Rattle.std.specs.List.{AllByRecursion}
 use Rattle.std.proofs.lemmas.Bool.Decides.{nat_tests}
 use Rattle.std.proofs.lemmas.List.Sums.{sum_by-cons}
+use Rattle.lib_base.specs.declared.limits.TheConstants.{MOST_MEMBERS}
 use Rattle.keeper_store.specs.Changes.{changed}
-use Rattle.keeper_store.specs.Puts.{without, album_id, album_less, recording_id, recording_less, segments_less, segments_take}
-use Rattle.keeper_store.specs.declared.contents.Change.TheVariants.{DropAlbum, DropRecording, DropSegments}
+use Rattle.keeper_store.specs.Puts.{without, album_id, album_less, recording_id, recording_less}
+use Rattle.keeper_store.specs.declared.contents.Change.TheVariants.{DropAlbum, DropRecording}
 use Rattle.keeper_store.specs.declared.contents.Tables.{Tables}
 use Rattle.keeper_store.specs.declared.row_types.AlbumRow.{AlbumRow}
 use Rattle.keeper_store.specs.declared.row_types.RecordingRow.{RecordingRow}
-use Rattle.keeper_store.specs.declared.row_types.SegmentRow.{SegmentRow}
 use Rattle.keeper_store.proofs.Dropping.{AllByRecursion-without, Ascends-without}
 use Rattle.keeper_store.proofs.Putting.{AllByRecursion-weaken}
-use Rattle.library_model.specs.declared.limits.TheConstants.{MOST_MEMBERS}
 use Rattle.library_model.specs.InOrder.{AreInOrder, Differ, IsGiven}
 use Rattle.library_model.specs.Names.{is_name}
 use Rattle.library_model.specs.RowRules.{album_is_there, has_album, is_in_album, member_count}
@@ -128,26 +127,3 @@ AreInOrder-drop_recording t id are = record {
         let less : member_count a.id (without recording_id id t.recordings) ≤ member_count a.id t.recordings =
         count_by-filter (λ (r : RecordingRow). is_in_album a.id r.album) (λ (r : RecordingRow). not (recording_id r == id)) t.recordings in
         omega (arith, few, less)
-
--- Tables in order stay so where segments are dropped.
-pub AreInOrder-drop_segments : (t : Tables) (take : ℕ) → AreInOrder t → AreInOrder (changed (DropSegments take) t)
-AreInOrder-drop_segments t take are = record {
-  next_album = are.next_album;
-  next_recording = are.next_recording;
-  next_take = are.next_take;
-  albums = are.albums;
-  recordings = are.recordings;
-  segments = Ascends-without segments_less segments_take take t.segments are.segments;
-  replies = are.replies;
-  album_ids_given = are.album_ids_given;
-  ids_given = are.ids_given;
-  takes_given = are.takes_given;
-  segments_given = AllByRecursion-without (λ (s : SegmentRow). IsGiven t.next_take s.take) segments_take take t.segments are.segments_given;
-  takes_differ = are.takes_differ;
-  albums_there = are.albums_there;
-  few_members = are.few_members;
-  album_names = are.album_names;
-  names = are.names;
-  tokens = are.tokens;
-  statuses = are.statuses;
-}

@@ -1,11 +1,8 @@
 -- What an import does to the state, to the tables and to the files that blobs hold.
-use Rattle.std.proofs.Common.{◌≡◌, ℕ, ◌+◌, ◌<◌, Bool, true, Some, List, [], ◌∷◌, ◌++◌, map, refl, sym, ap, ◌∙◌, subst, append-nil, arith, lt-ltb}
+use Rattle.std.proofs.Common.{◌≡◌, ℕ, ◌+◌, Bool, true, Option, Some, List, [], ◌∷◌, ◌++◌, map, refl, ap, ◌∙◌, arith, lt-ltb}
 use Rattle.std.specs.List.{AllByRecursion}
-use Rattle.std.proofs.lemmas.List.Elements.{filter-append}
 use Rattle.lib_base.specs.declared.files.Summary.{Summary}
 use Rattle.file_model.specs.Pcm.{Pcm}
-use Rattle.sound_model.specs.Albums.{IsAlbumSummary}
-use Rattle.library_model.specs.Findings.{Finds, measured}
 use Rattle.keeper_store.specs.Blobs.{Blobs, OthersKept}
 use Rattle.keeper_store.specs.Changes.{empty_tables, changed_all}
 use Rattle.keeper_store.specs.Puts.{put, recording_less, segments_less}
@@ -16,12 +13,10 @@ use Rattle.keeper_store.specs.declared.row_types.SegmentRow.{SegmentRow}
 use Rattle.keeper_store.proofs.Putting.{map-put, AllByRecursion-put}
 use Rattle.library_model.specs.Machine.{imported, new_recording}
 use Rattle.std.specs.Prelude.{fold}
-use Rattle.library_model.specs.RowRules.{is_in_album}
-use Rattle.library_model.specs.Stands.{IsFound, IsSummed, IsValid, IsWithinLimit, HoldsFiles, album_row, measured_all, members, recording_row, reply_row, segment_row, segment_rows, tables_of}
-use Rattle.library_model.specs.InOrder.{AreInOrder, IsGiven}
-use Rattle.library_model.specs.State.{Recording, State, empty_state, numbers_end, recording_before}
-use Rattle.library_model.proofs.InOrderLemmas.{AllByRecursion-unmap, AreInOrder-import, empty-AreInOrder}
-use Rattle.library_model.proofs.WorkedNames.{is_name-empty}
+use Rattle.library_model.specs.Stands.{IsValid, HoldsFiles, album_row, recording_row, reply_row, segment_row, segment_rows, tables_of}
+use Rattle.library_model.specs.InOrder.{IsGiven}
+use Rattle.library_model.specs.State.{Recording, State, empty_state, recording_before}
+use Rattle.library_model.proofs.InOrderLemmas.{AllByRecursion-unmap, empty-AreInOrder}
 
 -- ---- lists of which each element has a property
 
@@ -58,12 +53,12 @@ given_of s valid = (
 )
 
 -- There an import's recording comes last.
-pub recordings-imported : (s : State) (file : List ℕ) (sound : Pcm) (summary : Summary) → IsValid s
-    → (imported s file sound summary).recordings ≡ s.recordings ++ new_recording s file sound summary ∷ []
-recordings-imported s file sound summary valid =
-    put-last recording_before (new_recording s file sound summary) s.recordings
+pub recordings-imported : (s : State) (album : Option ℕ) (name file : List ℕ) (sound : Pcm) (summary : Summary) → IsValid s
+    → (imported s album name file sound summary).recordings ≡ s.recordings ++ new_recording s album name file sound summary ∷ []
+recordings-imported s album name file sound summary valid =
+    put-last recording_before (new_recording s album name file sound summary) s.recordings
     (AllByRecursion-weaker (λ (r : Recording). IsGiven s.next_recording r.id)
-    (λ (r : Recording). recording_before r (new_recording s file sound summary) ≡ true) s.recordings
+    (λ (r : Recording). recording_before r (new_recording s album name file sound summary) ≡ true) s.recordings
     (λ r given. lt-ltb r.id s.next_recording given.1) (given_of s valid).0)
 
 -- One recording more puts the row of its segments in its place.
@@ -74,11 +69,11 @@ segment_rows-push rows [] r = refl
 segment_rows-push rows (first ∷ rs) r = segment_rows-push (put segments_less (segment_row first) rows) rs r
 
 -- The tables after an import are the changes of its counters and of its rows.
-pub tables_of-imported : (s : State) (file : List ℕ) (sound : Pcm) (summary : Summary) → IsValid s → tables_of (imported s file sound summary)
+pub tables_of-imported : (s : State) (album : Option ℕ) (name file : List ℕ) (sound : Pcm) (summary : Summary) → IsValid s → tables_of (imported s album name file sound summary)
     ≡ changed_all (Counters s.next_album (s.next_recording + 1) (s.next_take + 1)
-    ∷ PutRecording (recording_row (new_recording s file sound summary))
-    ∷ PutSegments (segment_row (new_recording s file sound summary)) ∷ []) (tables_of s)
-tables_of-imported s file sound summary valid =
+    ∷ PutRecording (recording_row (new_recording s album name file sound summary))
+    ∷ PutSegments (segment_row (new_recording s album name file sound summary)) ∷ []) (tables_of s)
+tables_of-imported s album name file sound summary valid =
     let with_rows : List RecordingRow → List SegmentRow → Tables = λ rows segments. record {
       next_album = s.next_album;
       next_recording = s.next_recording + 1;
@@ -88,40 +83,11 @@ tables_of-imported s file sound summary valid =
       segments = segments;
       replies = map reply_row s.replies;
     } in
-    let new = new_recording s file sound summary in
-    ap (λ (rows : List RecordingRow). with_rows rows (segment_rows (imported s file sound summary).recordings))
+    let new = new_recording s album name file sound summary in
+    ap (λ (rows : List RecordingRow). with_rows rows (segment_rows (imported s album name file sound summary).recordings))
     (map-put recording_before recording_less recording_row (λ a b. refl) new s.recordings)
     ∙ ap (with_rows (put recording_less (recording_row new) (map recording_row s.recordings)))
-    (ap segment_rows (recordings-imported s file sound summary valid) ∙ segment_rows-push [] s.recordings new)
-
--- Each album has the recordings that it had.
-members-imported : (id : ℕ) (s : State) (file : List ℕ) (sound : Pcm) (summary : Summary) → IsValid s
-    → members id (imported s file sound summary).recordings ≡ members id s.recordings
-members-imported id s file sound summary valid =
-    ap (members id) (recordings-imported s file sound summary valid)
-    ∙ filter-append (λ (r : Recording). is_in_album id r.album) s.recordings (new_recording s file sound summary ∷ [])
-    ∙ append-nil (members id s.recordings)
-
--- So each still has their levels.
-summed-imported : (s : State) (file : List ℕ) (sound : Pcm) (summary : Summary) → IsValid s
-    → AllByRecursion (IsSummed (imported s file sound summary).recordings) s.albums
-summed-imported s file sound summary valid =
-    AllByRecursion-weaker (IsSummed s.recordings) (IsSummed (imported s file sound summary).recordings) s.albums
-    (λ a summed. subst (λ (rs : List Recording). IsAlbumSummary (measured_all rs) a.summary)
-    (sym (members-imported a.id s file sound summary valid)) summed) valid.summed
-
--- An import of a file within the limit under numbers that are left keeps a state valid.
-pub imported-IsValid : (s : State) (file : List ℕ) (sound : Pcm) (summary : Summary) → IsValid s
-    → s.next_recording < numbers_end → s.next_take < numbers_end → IsWithinLimit file → Finds file (measured sound summary)
-    → IsValid (imported s file sound summary)
-imported-IsValid s file sound summary valid ids takes within reads =
-    let new : Recording = new_recording s file sound summary in
-    record {
-      rows = subst AreInOrder (sym (tables_of-imported s file sound summary valid))
-          (AreInOrder-import (tables_of s) (recording_row new) (segment_row new) valid.rows ids takes refl refl refl is_name-empty refl);
-      files = AllByRecursion-put IsFound recording_before new s.recordings (within, reads) valid.files;
-      summed = summed-imported s file sound summary valid;
-    }
+    (ap segment_rows (recordings-imported s album name file sound summary valid) ∙ segment_rows-push [] s.recordings new)
 
 -- Blobs that hold another file under the next take hold the files of the state.
 pub HoldsFiles-kept : (s : State) (old new : Blobs) → IsValid s → HoldsFiles old s.recordings
@@ -132,11 +98,11 @@ HoldsFiles-kept s old new valid holds kept =
     (λ r held given. kept r.take (λ same. omega (arith, given.1, same)) ∙ held) holds (given_of s valid).1
 
 -- Blobs that hold the new file under the next take hold the files of the state after the import.
-pub HoldsFiles-imported : (s : State) (file : List ℕ) (sound : Pcm) (summary : Summary) (old new : Blobs) → IsValid s
+pub HoldsFiles-imported : (s : State) (album : Option ℕ) (name file : List ℕ) (sound : Pcm) (summary : Summary) (old new : Blobs) → IsValid s
     → HoldsFiles old s.recordings → OthersKept s.next_take old new → new s.next_take ≡ Some file
-    → HoldsFiles new (imported s file sound summary).recordings
-HoldsFiles-imported s file sound summary old new valid holds kept put_there =
-    AllByRecursion-put (λ (r : Recording). new r.take ≡ Some r.file) recording_before (new_recording s file sound summary) s.recordings
+    → HoldsFiles new (imported s album name file sound summary).recordings
+HoldsFiles-imported s album name file sound summary old new valid holds kept put_there =
+    AllByRecursion-put (λ (r : Recording). new r.take ≡ Some r.file) recording_before (new_recording s album name file sound summary) s.recordings
     put_there (HoldsFiles-kept s old new valid holds kept)
 
 -- ---- the empty state

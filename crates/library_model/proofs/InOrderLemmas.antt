@@ -1,24 +1,23 @@
 -- Tables that are in order stay so.
-use Rattle.std.proofs.Common.{◌≡◌, ◌≢◌, ◌<◌, ◌≤◌, ◌+◌, ◌==◌, ◌||◌, true≢false, Some, ℕ, Bool, true, false, cond, nat_lt, Option, None, List, [], ◌∷◌, map, refl, sym, ap, arith}
+use Rattle.std.proofs.Common.{◌≡◌, ◌≢◌, ◌≤◌, ◌+◌, ◌==◌, ◌||◌, true≢false, Some, ℕ, Bool, true, false, cond, nat_lt, Option, None, List, [], ◌∷◌, map, refl, sym, arith}
 use Rattle.std.specs.Prelude.{count_by}
 use Rattle.std.specs.List.{AllByRecursion}
 use Rattle.std.proofs.lemmas.Bool.Decides.{nat_tests}
 use Rattle.std.proofs.lemmas.List.Sums.{sum_by-cons}
-use Rattle.keeper_store.specs.Changes.{changed, changed_all, empty_tables}
-use Rattle.keeper_store.specs.Puts.{Ascends, put, album_less, recording_less, reply_less, segments_less}
-use Rattle.keeper_store.specs.declared.contents.Change.TheVariants.{Counters, PutAlbum, PutRecording, PutSegments, PutReply}
+use Rattle.lib_base.specs.declared.limits.TheConstants.{MOST_MEMBERS}
+use Rattle.keeper_store.specs.Changes.{changed, empty_tables}
+use Rattle.keeper_store.specs.Puts.{Ascends, put, album_less, recording_less, reply_less}
+use Rattle.keeper_store.specs.declared.contents.Change.TheVariants.{Counters, PutAlbum, PutRecording, PutReply}
 use Rattle.keeper_store.specs.declared.contents.Tables.{Tables}
 use Rattle.keeper_store.specs.declared.row_types.AlbumRow.{AlbumRow}
 use Rattle.keeper_store.specs.declared.row_types.RecordingRow.{RecordingRow}
 use Rattle.keeper_store.specs.declared.row_types.SegmentRow.{SegmentRow}
 use Rattle.keeper_store.specs.declared.row_types.ReplyRow.{ReplyRow}
-use Rattle.keeper_store.specs.Orders.{albums_in_order, recordings_in_order, replies_in_order, segments_in_order}
+use Rattle.keeper_store.specs.Orders.{albums_in_order, recordings_in_order, replies_in_order}
 use Rattle.keeper_store.proofs.Putting.{AllByRecursion-put, AllByRecursion-weaken, Ascends-put}
-use Rattle.library_model.specs.declared.limits.TheConstants.{MOST_MEMBERS}
 use Rattle.library_model.specs.InOrder.{AreInOrder, Differ, IsCounter, IsGiven, IsKeptStatus}
 use Rattle.library_model.specs.Names.{is_name, is_token}
-use Rattle.library_model.specs.RowRules.{album_is_there, has_album, is_in_album, member_count}
-use Rattle.library_model.specs.State.{numbers_end}
+use Rattle.library_model.specs.RowRules.{album_is_there, has_album, member_count}
 
 -- the images have the property where each element's image has it
 pub AllByRecursion-map : {A B : Type 0} (P : B → Type 0) (f : A → B) (xs : List A)
@@ -164,36 +163,12 @@ AreInOrder-put_recording t row are id take others album name few = record {
   statuses = are.statuses;
 }
 
--- Tables in order stay so where segments are put under a take that was given.
-pub AreInOrder-put_segments : (t : Tables) (row : SegmentRow) → AreInOrder t → IsGiven t.next_take row.take
-    → AreInOrder (changed (PutSegments row) t)
-AreInOrder-put_segments t row are take = record {
-  next_album = are.next_album;
-  next_recording = are.next_recording;
-  next_take = are.next_take;
-  albums = are.albums;
-  recordings = are.recordings;
-  segments = Ascends-put segments_less segments_in_order row t.segments are.segments;
-  replies = are.replies;
-  album_ids_given = are.album_ids_given;
-  ids_given = are.ids_given;
-  takes_given = are.takes_given;
-  segments_given = AllByRecursion-put (λ (r : SegmentRow). IsGiven t.next_take r.take) segments_less row t.segments take are.segments_given;
-  takes_differ = are.takes_differ;
-  albums_there = are.albums_there;
-  few_members = are.few_members;
-  album_names = are.album_names;
-  names = are.names;
-  tokens = are.tokens;
-  statuses = are.statuses;
-}
-
 either : (b : Bool) → (b || true) ≡ true
 either true = refl
 either false = refl
 
 -- an album that is there still is where a row is put
-has_album-put : (id : ℕ) (row : AlbumRow) (albums : List AlbumRow) → has_album id albums ≡ true
+pub has_album-put : (id : ℕ) (row : AlbumRow) (albums : List AlbumRow) → has_album id albums ≡ true
     → has_album id (put album_less row albums) ≡ true
 has_album-put id row [] there = absurd (true≢false (sym there))
 has_album-put id row (a ∷ albums) there =
@@ -265,45 +240,7 @@ AreInOrder-put_reply t row are token status = record {
   statuses = AllByRecursion-put (λ (k : ReplyRow). IsKeptStatus k.status) reply_less row t.replies status are.statuses;
 }
 
--- ---- an import
-
--- a recording in no album makes no album larger
-few_beside : (row : RecordingRow) (rows : List RecordingRow) (albums : List AlbumRow) → row.album ≡ None
-    → AllByRecursion (λ (a : AlbumRow). member_count a.id rows ≤ MOST_MEMBERS) albums
-    → AllByRecursion (λ (a : AlbumRow). member_count a.id (put recording_less row rows) ≤ MOST_MEMBERS) albums
-few_beside row rows albums none few =
-    AllByRecursion-weaken (λ (a : AlbumRow). member_count a.id rows ≤ MOST_MEMBERS)
-    (λ (a : AlbumRow). member_count a.id (put recording_less row rows) ≤ MOST_MEMBERS) (λ a. no_more a.id) albums few
-  where
-    no_more : (id : ℕ) → member_count id rows ≤ MOST_MEMBERS → member_count id (put recording_less row rows) ≤ MOST_MEMBERS
-    no_more id few =
-        let outside : is_in_album id row.album ≡ false = ap (is_in_album id) none in
-        let grown : member_count id (put recording_less row rows) ≤ cond (is_in_album id row.album) 1 0 + member_count id rows =
-        count_by-put (λ (r : RecordingRow). is_in_album id r.album) recording_less row rows in
-        let same = rw outside at grown in
-        omega (arith, few, same)
-
--- Tables in order stay so where a recording in no album and its segments come under the next numbers.
-pub AreInOrder-import : (t : Tables) (row : RecordingRow) (segments : SegmentRow) → AreInOrder t
-    → t.next_recording < numbers_end → t.next_take < numbers_end
-    → row.id ≡ t.next_recording → row.take ≡ t.next_take → row.album ≡ None → is_name row.name ≡ true → segments.take ≡ t.next_take
-    → AreInOrder (changed_all (Counters t.next_album (t.next_recording + 1) (t.next_take + 1)
-    ∷ PutRecording row ∷ PutSegments segments ∷ []) t)
-AreInOrder-import t row segments are ids takes id_is take_is album_is name segments_is =
-    let low_id : 1 ≤ t.next_recording = are.next_recording.0 in
-    let low_take : 1 ≤ t.next_take = are.next_take.0 in
-    let risen : Tables = changed (Counters t.next_album (t.next_recording + 1) (t.next_take + 1)) t in
-    let counted : AreInOrder risen =
-    AreInOrder-counters t t.next_album (t.next_recording + 1) (t.next_take + 1) are are.next_album
-    (omega arith, omega arith) (omega arith, omega arith) (omega arith) (omega arith) (omega arith) in
-    let others : AllByRecursion (λ (r : RecordingRow). r.id ≢ row.id → r.take ≢ row.take) t.recordings =
-    AllByRecursion-weaken (λ (r : RecordingRow). IsGiven t.next_take r.take) (λ (r : RecordingRow). r.id ≢ row.id → r.take ≢ row.take)
-    (λ r given apart same. omega (arith, given.1, same, take_is)) t.recordings are.takes_given in
-    let there : album_is_there row.album t.albums ≡ true = ap (λ (a : Option ℕ). album_is_there a t.albums) album_is in
-    let put_in : AreInOrder (changed (PutRecording row) risen) =
-    AreInOrder-put_recording risen row counted (omega (arith, id_is), omega (arith, id_is)) (omega (arith, take_is), omega (arith, take_is))
-    others there name (few_beside row t.recordings t.albums album_is are.few_members) in
-    AreInOrder-put_segments (changed (PutRecording row) risen) segments put_in (omega (arith, segments_is), omega (arith, segments_is))
+-- ---- no rows
 
 -- The empty tables are in order.
 pub empty-AreInOrder : AreInOrder empty_tables

@@ -2,6 +2,7 @@
 use Rattle.std.proofs.Common.{◌≡◌, ◌≢◌, ◌≤◌, ◌+◌, ◌==◌, ◌||◌, inl, inr, ℕ, Bool, true, false, Option, None, List, [], ◌∷◌, length, map, nat_le, nat_lt, refl, ap, arith}
 use Rattle.std.specs.List.{AllByRecursion}
 use Rattle.std.proofs.lemmas.Bool.Decides.{nat_tests}
+use Rattle.lib_base.specs.declared.limits.TheConstants.{NUMBERS_END, MOST_MEMBERS}
 use Rattle.keeper_store.specs.Puts.{Ascends, album_less, recording_less, reply_less, segments_less}
 use Rattle.keeper_store.specs.declared.contents.Tables.{Tables}
 use Rattle.keeper_store.specs.declared.row_types.AlbumRow.{AlbumRow}
@@ -11,12 +12,10 @@ use Rattle.keeper_store.specs.declared.row_types.ReplyRow.{ReplyRow}
 use Rattle.keeper_store.proofs.Putting.{AllByRecursion-weaken}
 use Rattle.library_model.specs.declared.bad_rows.BadRow.{BadRow}
 use Rattle.library_model.specs.declared.bad_rows.RowTable.TheVariants.{Albums, Recordings, Segments, Replies}
-use Rattle.library_model.specs.declared.limits.TheConstants.{MOST_MEMBERS}
 use Rattle.library_model.specs.InOrder.{AreInOrder, Differ, IsCounter, IsGiven, IsKeptStatus}
 use Rattle.library_model.specs.Names.{is_name, is_token}
 use Rattle.library_model.specs.RowRules.{album_rule, album_is_there, bad_album, bad_at, bad_recording, bad_reply, bad_segments, beside_row, counters_rule, energies_rule, first_bad_of, first_bad_row, frames_of_take, has_segments, is_above, is_counter, is_named, is_sound, member_count, recording_rule, reply_rule, segments_before, segments_rule, token_before}
 use Rattle.library_model.specs.RowRules.{album_before, recording_before}
-use Rattle.library_model.specs.State.{numbers_end}
 use Rattle.library_model.proofs.Imports.{AllByRecursion-both}
 use Rattle.library_model.proofs.InOrderLemmas.{AllByRecursion-unmap}
 
@@ -25,7 +24,7 @@ use Rattle.library_model.proofs.InOrderLemmas.{AllByRecursion-unmap}
 counter_passes : (next : ℕ) → IsCounter next → is_counter next ≡ true
 counter_passes next is =
     let one : nat_le 1 next ≡ true = grind (arith, nat_tests, is.0) in
-    let most : nat_le next numbers_end ≡ true = grind (arith, nat_tests, is.1) in
+    let most : nat_le next NUMBERS_END ≡ true = grind (arith, nat_tests, is.1) in
     rw (one, most) refl
 
 counters_pass : (t : Tables) → AreInOrder t → counters_rule t ≡ None

@@ -16,13 +16,15 @@ use Rattle.sound_model.specs.Texts.{millionths}
 use Rattle.sound_model.proofs.LevelLaws.{level_from_root}
 use Rattle.sound_model.proofs.LevelTable.{later_places_pass}
 use Rattle.library_model.specs.Findings.{Finds, measured, broken_by}
+use Rattle.library_model.specs.declared.messages.Reply.{Reply}
 use Rattle.library_model.specs.declared.refusals.Refusal.TheVariants.{Vault, Keeper}
 use Rattle.library_model.specs.declared.messages.Question.TheVariants as about
-use Rattle.library_model.specs.Machine.{import_verdict, imported, question_reply, recording_of, accepts, stays}
+use Rattle.library_model.specs.Asked.{change, malformed}
+use Rattle.library_model.specs.Machine.{Decides, import_step, imported, keeping, kept_under, makes, question_reply, recording_of, recording_reply, refuses, repeat_reply, accepts, stays}
 use Rattle.library_model.specs.Replies.{json, format_refusal, refusal}
 use Rattle.library_model.specs.InOrder.{IsGiven}
 use Rattle.library_model.specs.Stands.{IsValid, recording_row}
-use Rattle.library_model.specs.State.{Recording, State, empty_state}
+use Rattle.library_model.specs.State.{Kept, Recording, State, empty_state}
 use Rattle.library_model.proofs.Imports.{given_of}
 
 -- ---- one recording
@@ -104,23 +106,23 @@ refusal-vault = refl
 pub refusal-keeper : refusal Keeper ≡ json 504 (codes "{\"error\":\"keeper\"}")
 refusal-keeper = refl
 
--- ---- verdicts
+-- ---- steps
 
--- The first import is accepted as recording 1.
-pub import_verdict-accepts : import_verdict empty_state (four_frames 1) (measured row_sound row_summary)
-    ≡ accepts (json 201 (codes "{\"channels\":1,\"depth\":16,\"frames\":4,\"gain\":null,\"id\":1,\"kind\":\"wave\",\"loudness\":null,\"momentary\":null,\"peak\":\"0.537233\",\"range\":null,\"short\":null,\"true_peak\":-540}"))
+-- The first import makes recording 1.
+pub import_step-makes : import_step empty_state None [] (four_frames 1) (measured row_sound row_summary)
+    ≡ makes (λ _. json 201 (codes "{\"album\":null,\"channels\":1,\"depth\":16,\"frames\":4,\"gain\":null,\"id\":1,\"kind\":\"wave\",\"loudness\":null,\"momentary\":null,\"name\":\"\",\"peak\":\"0.537233\",\"range\":null,\"short\":null,\"take\":1,\"true_peak\":-540}"))
     (record empty_state { next_recording = 2; next_take = 2; recordings = row_recording ∷ [] })
 unfolding serde_json_on_literals digits millionths
-import_verdict-accepts = refl
+import_step-makes = refl
 
 -- From the state that it leads to, a question after recording 1 is answered with the same body.
-pub question_reply-imported : question_reply (imported empty_state (four_frames 1) row_sound row_summary) (about.Recording 1)
-    ≡ json 200 (codes "{\"channels\":1,\"depth\":16,\"frames\":4,\"gain\":null,\"id\":1,\"kind\":\"wave\",\"loudness\":null,\"momentary\":null,\"peak\":\"0.537233\",\"range\":null,\"short\":null,\"true_peak\":-540}")
+pub question_reply-imported : question_reply (imported empty_state None [] (four_frames 1) row_sound row_summary) (about.Recording 1)
+    ≡ json 200 (codes "{\"album\":null,\"channels\":1,\"depth\":16,\"frames\":4,\"gain\":null,\"id\":1,\"kind\":\"wave\",\"loudness\":null,\"momentary\":null,\"name\":\"\",\"peak\":\"0.537233\",\"range\":null,\"short\":null,\"take\":1,\"true_peak\":-540}")
 unfolding serde_json_on_literals digits millionths
 question_reply-imported = refl
 
 -- Another one finds nothing.
-pub question_reply-other : question_reply (imported empty_state (four_frames 1) row_sound row_summary) (about.Recording 2)
+pub question_reply-other : question_reply (imported empty_state None [] (four_frames 1) row_sound row_summary) (about.Recording 2)
     ≡ json 404 (codes "{\"error\":\"no-recording\"}")
 question_reply-other = refl
 
@@ -136,27 +138,63 @@ recording_of-zero s valid = not_given s.next_recording s.recordings (given_of s 
         rw other (not_given next recordings given.1)
 
 -- A file that breaks a rule is refused by it.
-pub import_verdict-broken : import_verdict empty_state (codes "RIFF") (broken_by (V 3) 4)
-    ≡ stays (json 422 (codes "{\"error\":\"format\",\"place\":4,\"rule\":\"V3\"}"))
+pub import_step-broken : import_step empty_state None [] (codes "RIFF") (broken_by (V 3) 4)
+    ≡ refuses (json 422 (codes "{\"error\":\"format\",\"place\":4,\"rule\":\"V3\"}"))
 unfolding digits
-import_verdict-broken = refl
+import_step-broken = refl
 
 -- A state whose next recording would have the number at the end.
 abbrev pub row_full : State
 row_full = record empty_state { next_recording = 2147483647 }
 
 -- No number is left there.
-pub import_verdict-full : import_verdict row_full (four_frames 1) (measured row_sound row_summary)
-    ≡ stays (json 409 (codes "{\"error\":\"ids\"}"))
-import_verdict-full = refl
+pub import_step-full : import_step row_full None [] (four_frames 1) (measured row_sound row_summary)
+    ≡ refuses (json 409 (codes "{\"error\":\"ids\"}"))
+import_step-full = refl
 
 -- The state before it has one number left.
-pub import_verdict-last : import_verdict (record row_full { next_recording = 2147483646 }) (four_frames 1) (measured row_sound row_summary)
-    ≡ accepts (json 201 (codes "{\"channels\":1,\"depth\":16,\"frames\":4,\"gain\":null,\"id\":2147483646,\"kind\":\"wave\",\"loudness\":null,\"momentary\":null,\"peak\":\"0.537233\",\"range\":null,\"short\":null,\"true_peak\":-540}"))
+pub import_step-last : import_step (record row_full { next_recording = 2147483646 }) None (codes "A") (four_frames 1) (measured row_sound row_summary)
+    ≡ makes (λ _. recording_reply 201 (record row_recording { id = 2147483646; name = codes "A" }))
     (record empty_state {
       next_recording = 2147483647;
       next_take = 2;
-      recordings = record row_recording { id = 2147483646 } ∷ [];
+      recordings = record row_recording { id = 2147483646; name = codes "A" } ∷ [];
     })
-unfolding serde_json_on_literals digits millionths
-import_verdict-last = refl
+import_step-last = refl
+
+-- ---- tokens
+
+-- a reply, and what is kept of it under `t1`
+abbrev row_reply : Reply
+row_reply = json 201 (codes "{}")
+
+abbrev row_kept : Kept
+row_kept = record { token = codes "t1"; mark = 7 ∷ []; status = 201; body = codes "{}" }
+
+-- An accepted reply is kept.
+pub keeping-accepts : keeping (codes "t1") (7 ∷ []) (accepts row_reply empty_state)
+    ≡ accepts row_reply (record empty_state { replies = row_kept ∷ [] })
+keeping-accepts = refl
+
+-- A refusal keeps nothing.
+pub keeping-stays : keeping (codes "t1") (7 ∷ []) (stays row_reply) ≡ stays row_reply
+keeping-stays = refl
+
+-- The token of a kept reply is found, another is fresh.
+pub kept_under-token : (kept_under (codes "t1") (row_kept ∷ []) ≡ Some row_kept) × (kept_under (codes "t2") (row_kept ∷ []) ≡ None)
+kept_under-token = (refl, refl)
+
+-- A repeat gets the kept reply, another request with the token is refused.
+pub repeat_reply-marks : (repeat_reply (7 ∷ []) row_kept ≡ row_reply)
+    × (repeat_reply (8 ∷ []) row_kept ≡ json 409 (codes "{\"error\":\"token-used\"}"))
+repeat_reply-marks = (refl, refl)
+
+-- The state that keeps it.
+abbrev row_keeping : State
+row_keeping = record empty_state { replies = row_kept ∷ [] }
+
+-- So a repeat is answered, whatever it asks, another request with the token is refused, and under another token what is asked is decided.
+pub Decides-tokens : Decides row_keeping (change (codes "t1") (7 ∷ []) (malformed (refusal Vault))) (stays row_reply)
+    × Decides row_keeping (change (codes "t1") (8 ∷ []) (malformed (refusal Vault))) (stays (json 409 (codes "{\"error\":\"token-used\"}")))
+    × Decides row_keeping (change (codes "t2") (7 ∷ []) (malformed (refusal Vault))) (stays (refusal Vault))
+Decides-tokens = (refl, refl, refl)

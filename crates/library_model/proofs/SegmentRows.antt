@@ -18,12 +18,12 @@ abbrev pub of_take : ℕ → List SegmentRow → Option SegmentRow
 of_take take rows = find (λ (s : SegmentRow). s.take == take) rows
 
 -- rows with those of recordings put among them
-abbrev rows_with : List SegmentRow → List Recording → List SegmentRow
+abbrev pub rows_with : List SegmentRow → List Recording → List SegmentRow
 rows_with rows recordings = fold (λ (rows : List SegmentRow) (r : Recording). put segments_less (segment_row r) rows) rows recordings
 
 -- ---- a row that is put is the one of its take, and others stay
 
-of_take-put : (row : SegmentRow) (rows : List SegmentRow) → of_take row.take (put segments_less row rows) ≡ Some row
+pub of_take-put : (row : SegmentRow) (rows : List SegmentRow) → of_take row.take (put segments_less row rows) ≡ Some row
 of_take-put row [] =
     let same : (row.take == row.take) ≡ true = grind (arith, nat_tests) in rw same refl
 of_take-put row (r ∷ rows) =
@@ -39,7 +39,7 @@ of_take-put row (r ∷ rows) =
     cases more false true below = rw same refl
     cases more false false below = rw same refl
 
-of_take-other : (take : ℕ) (row : SegmentRow) (rows : List SegmentRow) → row.take ≢ take
+pub of_take-other : (take : ℕ) (row : SegmentRow) (rows : List SegmentRow) → row.take ≢ take
     → of_take take (put segments_less row rows) ≡ of_take take rows
 of_take-other take row [] differs =
     let other : (row.take == take) ≡ false = grind (arith, nat_tests) in rw other refl

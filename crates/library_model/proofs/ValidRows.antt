@@ -12,7 +12,7 @@ use Rattle.sound_model.specs.Albums.{IsAlbumSummary, SummarisesMeasured}
 use Rattle.sound_model.specs.Summaries.{IsWithinBounds}
 use Rattle.sound_model.proofs.MeasuredBounds.{measured_within}
 use Rattle.library_model.specs.Findings.{energies_of, kind_of, measured_of}
-use Rattle.library_model.specs.InOrder.{Differ}
+use Rattle.library_model.specs.InOrder.{AreInOrder, Differ}
 use Rattle.library_model.specs.RowRules.{IsFirstBad, IsSummedAlbum, IsSummedRecording, are_energies_of, energies_of_take, energies_rule, frames_of_take, is_in_album, is_sound, measured_in, members_in}
 use Rattle.library_model.specs.Stands.{IsFound, IsSummed, IsValid, album_row, measured_all, members, recording_row, segment_row, segment_rows, tables_of}
 use Rattle.library_model.specs.State.{Album, Recording, State}
@@ -30,7 +30,7 @@ sound_of : (r : Recording) → IsFound r → HasSound (kind_of r.file) r.file r.
 sound_of r found = HasSound-accepted r.file r.sound found.1.0
 
 -- what is measured of a recording's sound is within the bounds
-within_bounds : (r : Recording) → IsFound r → IsWithinBounds (measured_of r.sound)
+pub within_bounds : (r : Recording) → IsFound r → IsWithinBounds (measured_of r.sound)
 within_bounds r found =
     let has = sound_of r found in
     measured_within r.sound.depth r.sound.frames r.sound.lists has.is_sound (has.frames found.0)
@@ -49,7 +49,7 @@ row_passes r found =
 -- ---- the segments of recordings
 
 -- the takes of rows are those of recordings
-takes_of_rows : (rs : List Recording)
+pub takes_of_rows : (rs : List Recording)
     → map (λ (row : RecordingRow). row.take) (map recording_row rs) ≡ map (λ (r : Recording). r.take) rs
 takes_of_rows [] = refl
 takes_of_rows (r ∷ rs) = ap (λ (takes : List ℕ). r.take ∷ takes) (takes_of_rows rs)
@@ -93,9 +93,9 @@ segments_pass s valid =
     (λ (r : Recording). SegmentsPass (tables_of s) (segment_row r)) s.recordings (segments_of_recording rows) valid.files frames)
 
 -- each recording's take has its row
-own_segments : (s : State) → IsValid s
+own_segments : (s : State) → AreInOrder (tables_of s)
     → AllByRecursion (λ (r : Recording). of_take r.take (segment_rows s.recordings) ≡ Some (segment_row r)) s.recordings
-own_segments s valid = of_take-own [] s.recordings (subst Differ (takes_of_rows s.recordings) valid.rows.takes_differ)
+own_segments s are = of_take-own [] s.recordings (subst Differ (takes_of_rows s.recordings) are.takes_differ)
 
 -- each recording's row passes
 recordings_pass : (s : State) → IsValid s → AllByRecursion (RecordingPasses (tables_of s)) (map recording_row s.recordings)
@@ -106,7 +106,7 @@ recordings_pass s valid =
     (λ r found own. record {
       sound = row_passes r found;
       segments = has_segments-found r.take (segment_rows s.recordings) (segment_row r) own;
-    }) valid.files (own_segments s valid))
+    }) valid.files (own_segments s valid.rows))
 
 -- ---- summaries
 
@@ -132,12 +132,12 @@ measured_in-row s r found own =
       peak = peak;
     }
 
-all_measured : (s : State) → IsValid s
+pub all_measured : (s : State) → AreInOrder (tables_of s) → AllByRecursion IsFound s.recordings
     → AllByRecursion (λ (r : Recording). measured_in (tables_of s) (recording_row r) ≡ measured_of r.sound) s.recordings
-all_measured s valid =
+all_measured s are files =
     AllByRecursion-both IsFound (λ (r : Recording). of_take r.take (segment_rows s.recordings) ≡ Some (segment_row r))
     (λ (r : Recording). measured_in (tables_of s) (recording_row r) ≡ measured_of r.sound) s.recordings
-    (measured_in-row s) valid.files (own_segments s valid)
+    (measured_in-row s) files (own_segments s are)
 
 -- each recording has the levels of what the tables keep of it
 recordings_summed : (s : State) → IsValid s → AllByRecursion (IsSummedRecording (tables_of s)) (map recording_row s.recordings)
@@ -145,10 +145,10 @@ recordings_summed s valid =
     AllByRecursion-map (IsSummedRecording (tables_of s)) recording_row s.recordings
     (AllByRecursion-both IsFound (λ (r : Recording). measured_in (tables_of s) (recording_row r) ≡ measured_of r.sound)
     (λ (r : Recording). IsSummedRecording (tables_of s) (recording_row r)) s.recordings
-    (λ r found is. subst (λ (m : Measured). SummarisesMeasured m r.summary) (sym is) found.1.1) valid.files (all_measured s valid))
+    (λ r found is. subst (λ (m : Measured). SummarisesMeasured m r.summary) (sym is) found.1.1) valid.files (all_measured s valid.rows valid.files))
 
 -- what the tables keep of an album's recordings is what is measured of them
-measured_in-members : (t : Tables) (id : ℕ) (rs : List Recording)
+pub measured_in-members : (t : Tables) (id : ℕ) (rs : List Recording)
     → AllByRecursion (λ (r : Recording). measured_in t (recording_row r) ≡ measured_of r.sound) rs
     → map (measured_in t) (members_in id (map recording_row rs)) ≡ measured_all (members id rs)
 measured_in-members t id [] all = refl
@@ -168,7 +168,7 @@ albums_summed s valid =
     AllByRecursion-map (IsSummedAlbum (tables_of s)) album_row s.albums
     (AllByRecursion-weaker (IsSummed s.recordings) (λ (a : Album). IsSummedAlbum (tables_of s) (album_row a)) s.albums
     (λ a summed. subst (λ (ms : List Measured). IsAlbumSummary ms a.summary)
-    (sym (measured_in-members (tables_of s) a.id s.recordings (all_measured s valid))) summed) valid.summed)
+    (sym (measured_in-members (tables_of s) a.id s.recordings (all_measured s valid.rows valid.files))) summed) valid.summed)
 
 -- ---- all rules
 

@@ -5,6 +5,7 @@ use Rattle.std.specs.Char.{encode_utf8}
 use Rattle.std.specs.Str.{is_utf8, chars}
 use Rattle.lib_base.specs.declared.files.Kind.TheVariants.{Wave, Flac}
 use Rattle.lib_base.specs.declared.files.Summary.{Summary}
+use Rattle.lib_base.specs.declared.limits.TheConstants.{GREATEST_ENERGY}
 use Rattle.keeper_store.specs.declared.contents.Tables.{Tables}
 use Rattle.keeper_store.specs.declared.row_types.AlbumRow.{AlbumRow}
 use Rattle.keeper_store.specs.declared.row_types.RecordingRow.{RecordingRow}
@@ -12,7 +13,6 @@ use Rattle.keeper_store.specs.declared.row_types.SegmentRow.{SegmentRow}
 use Rattle.keeper_store.specs.declared.row_types.ReplyRow.{ReplyRow}
 use Rattle.keeper_store.specs.EnergyBytes.{row_bytes}
 use Rattle.keeper_store.specs.Changes.{empty_tables}
-use Rattle.sound_model.specs.Segments.{greatest_energy}
 use Rattle.library_model.specs.declared.bad_rows.BadRow.{BadRow}
 use Rattle.library_model.specs.declared.bad_rows.RowRule.TheVariants.{OtherNumber, NoAlbum, OtherText, OtherSound, OtherEnergies, OtherTake, OtherStatus}
 use Rattle.library_model.specs.declared.bad_rows.RowRule.{RowRule}
@@ -123,7 +123,7 @@ twelve_bytes : first_bad_row (record whole { segments = segments 1 ∷ (record {
 unfolding is_utf8 chars encode_utf8
 twelve_bytes = refl
 
-energy_too_great : first_bad_row (record whole { segments = (record { take = 1; energies = row_bytes ((greatest_energy + 1) ∷ []) }) ∷ segments 6 ∷ [] }) ≡ bad Segments 1 OtherEnergies
+energy_too_great : first_bad_row (record whole { segments = (record { take = 1; energies = row_bytes ((GREATEST_ENERGY + 1) ∷ []) }) ∷ segments 6 ∷ [] }) ≡ bad Segments 1 OtherEnergies
 unfolding is_utf8 chars encode_utf8
 energy_too_great = refl
 

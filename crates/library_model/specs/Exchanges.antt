@@ -1,8 +1,8 @@
 -- Requests with the replies to them.
-use Rattle.std.specs.Prelude.{◌≡◌, ◌+◌, ◌==◌, ℕ, List, [], ◌∷◌, map, if◌then◌else◌}
+use Rattle.std.specs.Prelude.{◌≡◌, ◌+◌, ◌==◌, ℕ, List, [], ◌∷◌, ◌++◌, map, if◌then◌else◌}
 use Rattle.library_model.specs.declared.messages.Reply.{Reply}
 use Rattle.library_model.specs.Asked.{Asked}
-use Rattle.library_model.specs.Machine.{Answer}
+use Rattle.library_model.specs.Machine.{Answer, taken_out}
 use Rattle.library_model.specs.State.{State}
 
 -- a request with the reply to it
@@ -18,10 +18,12 @@ exchange request reply = record { request = request; reply = reply }
 abbrev pub requests_of : List Exchange → List Asked
 requests_of exchanges = map (λ (e : Exchange). e.request) exchanges
 
--- From s, the library may make the exchanges in order, and end in last.
-abbrev pub Answers : State → List Exchange → State → Type 0
-Answers s [] last = last ≡ s
-Answers s (e ∷ exchanges) last = (next : State) × Answer s e.request e.reply next × Answers next exchanges last
+-- From s, the library may make the exchanges in order, and end in last, with these takes taken out on the way.
+abbrev pub Answers : State → List Exchange → State → List ℕ → Type 0
+Answers s [] last released = (last ≡ s) × (released ≡ [])
+Answers s (e ∷ exchanges) last released =
+    (next : State) × (later : List ℕ) × Answer s e.request e.reply next × Answers next exchanges last later
+    × (released ≡ taken_out s next ++ later)
 
 -- one for a reply of that status, and none for another
 abbrev pub counted : ℕ → Reply → ℕ

@@ -1,16 +1,15 @@
 -- Which tables are in order: the rules of rows that speak of numbers, names, tokens and statuses alone.
 use Rattle.std.specs.Prelude.{◌≡◌, ◌≢◌, ◌<◌, ◌≤◌, ◌⊎◌, ℕ, true, List, [], ◌∷◌, map, ⊤}
 use Rattle.std.specs.List.{AllByRecursion}
+use Rattle.lib_base.specs.declared.limits.TheConstants.{NUMBERS_END, MOST_MEMBERS}
 use Rattle.keeper_store.specs.Puts.{Ascends, album_less, recording_less, segments_less, reply_less}
 use Rattle.keeper_store.specs.declared.contents.Tables.{Tables}
 use Rattle.keeper_store.specs.declared.row_types.AlbumRow.{AlbumRow}
 use Rattle.keeper_store.specs.declared.row_types.RecordingRow.{RecordingRow}
 use Rattle.keeper_store.specs.declared.row_types.SegmentRow.{SegmentRow}
 use Rattle.keeper_store.specs.declared.row_types.ReplyRow.{ReplyRow}
-use Rattle.library_model.specs.declared.limits.TheConstants.{MOST_MEMBERS}
 use Rattle.library_model.specs.Names.{is_name, is_token}
 use Rattle.library_model.specs.RowRules.{album_is_there, member_count}
-use Rattle.library_model.specs.State.{numbers_end}
 
 -- no number stands twice
 abbrev pub Differ : List ℕ → Type 0
@@ -23,7 +22,7 @@ IsGiven next number = (1 ≤ number) × (number < next)
 
 -- a counter from 1 to its end
 abbrev pub IsCounter : ℕ → Type 0
-IsCounter next = (1 ≤ next) × (next ≤ numbers_end)
+IsCounter next = (1 ≤ next) × (next ≤ NUMBERS_END)
 
 -- the statuses of replies that are kept: those of changes that were made
 abbrev pub IsKeptStatus : ℕ → Type 0

@@ -1,12 +1,15 @@
 pub mod Asked
+pub mod Batches
 pub mod Bodies
 pub mod Exchanges
 pub mod Findings
+pub mod Granted
 pub mod InOrder
 pub mod Machine
 pub mod Named
 pub mod Names
 pub mod Refusals
+pub mod Repeats
 pub mod Replies
 pub mod Stands
 pub mod RowRules

@@ -1,11 +1,11 @@
 -- The bodies of requests that name something or choose an album (RFC 8259).
 use Rattle.std.specs.Prelude.{◌&&◌, ℕ, Bool, true, false, List, codes, nat_le, nat_lt, Option, None, Some, option_map, option_and_then, if◌then◌else◌}
 use Rattle.std.specs.Str.{is_utf8}
+use Rattle.lib_base.specs.declared.limits.TheConstants.{NUMBERS_END}
 use Rattle.serde_json.specs.Data.{Data, null, number, object, no_members, member}
 use Rattle.serde_json.specs.Find.{get, as_str, as_u64}
 use Rattle.serde_json.specs.Read.{read}
 use Rattle.library_model.specs.Names.{is_name}
-use Rattle.library_model.specs.State.{numbers_end}
 
 -- ---- what bodies say
 
@@ -32,7 +32,7 @@ name_in body = option_and_then if_name (option_and_then as_str (option_and_then 
 
 -- a number, where an album may have it as its id
 abbrev pub if_given : ℕ → Option ℕ
-if_given n = if nat_le 1 n && nat_lt n numbers_end then Some n else None
+if_given n = if nat_le 1 n && nat_lt n NUMBERS_END then Some n else None
 
 -- the album that is chosen by an id, or none that is chosen by null
 abbrev pub chosen : Data → Option (Option ℕ)

@@ -8,7 +8,7 @@ use Rattle.std.specs.Ordering.{nat_cmp, is_lt}
 use Rattle.lib_base.specs.declared.files.Kind.{Kind}
 use Rattle.lib_base.specs.declared.files.Kind.TheVariants.{Wave, Flac}
 use Rattle.lib_base.specs.declared.files.Measured.{Measured}
-use Rattle.lib_base.specs.declared.limits.TheConstants.{MOST_CHANNELS}
+use Rattle.lib_base.specs.declared.limits.TheConstants.{MOST_CHANNELS, GREATEST_ENERGY, MOST_SAMPLES, GREATEST_PEAK, NUMBERS_END, MOST_MEMBERS, SEGMENT_FRAMES}
 use Rattle.keeper_store.specs.declared.contents.Tables.{Tables}
 use Rattle.keeper_store.specs.declared.row_types.AlbumRow.{AlbumRow}
 use Rattle.keeper_store.specs.declared.row_types.RecordingRow.{RecordingRow}
@@ -16,16 +16,12 @@ use Rattle.keeper_store.specs.declared.row_types.SegmentRow.{SegmentRow}
 use Rattle.keeper_store.specs.declared.row_types.ReplyRow.{ReplyRow}
 use Rattle.keeper_store.specs.EnergyBytes.{energies_in}
 use Rattle.sound_model.specs.Albums.{SummarisesMeasured, IsAlbumSummary}
-use Rattle.sound_model.specs.Segments.{greatest_energy}
-use Rattle.sound_model.specs.Summaries.{most_frames, greatest_peak}
 use Rattle.library_model.specs.declared.bad_rows.BadRow.{BadRow}
 use Rattle.library_model.specs.declared.bad_rows.RowRule.{RowRule}
 use Rattle.library_model.specs.declared.bad_rows.RowRule.TheVariants.{OtherNumber, NoAlbum, OtherText, OtherSound, OtherEnergies, OtherTake, CrowdedAlbum, OtherSummary, OtherStatus}
 use Rattle.library_model.specs.declared.bad_rows.RowTable.{RowTable}
 use Rattle.library_model.specs.declared.bad_rows.RowTable.TheVariants.{Counters, Albums, Recordings, Segments, Replies}
-use Rattle.library_model.specs.declared.limits.TheConstants.{MOST_MEMBERS}
 use Rattle.library_model.specs.Names.{is_name, is_token}
-use Rattle.library_model.specs.State.{numbers_end}
 
 -- the number of a table
 abbrev pub table_number : RowTable → ℕ
@@ -51,7 +47,7 @@ row_rule_number OtherStatus = 9
 
 -- a counter from 1 to its end
 abbrev pub is_counter : ℕ → Bool
-is_counter next = nat_le 1 next && nat_le next numbers_end
+is_counter next = nat_le 1 next && nat_le next NUMBERS_END
 
 -- the rule that the counters break
 abbrev pub counters_rule : Tables → Option RowRule
@@ -80,7 +76,7 @@ is_depth Flac depth = nat_le 4 depth && nat_le depth 24
 abbrev pub is_sound : RecordingRow → Bool
 is_sound row =
     nat_le 1 row.channels && nat_le row.channels MOST_CHANNELS && is_depth row.kind row.depth
-    && nat_le row.summary.frames most_frames && nat_le row.summary.peak greatest_peak
+    && nat_le row.summary.frames MOST_SAMPLES && nat_le row.summary.peak GREATEST_PEAK
 
 -- what the tables have for a recording's row
 pub record BesideRow : Type 0 where
@@ -104,8 +100,8 @@ recording_rule next_id next_take before beside row =
 -- the bytes are energies, 11 bytes each and none too great, of as many segments as the frames make
 abbrev pub are_energies_of : ℕ → List ℕ → Bool
 are_energies_of frames bytes =
-    length bytes % 11 == 0 && list_all (λ e. nat_le e greatest_energy) (energies_in bytes)
-    && length (energies_in bytes) == frames / 4800
+    length bytes % 11 == 0 && list_all (λ e. nat_le e GREATEST_ENERGY) (energies_in bytes)
+    && length (energies_in bytes) == frames / SEGMENT_FRAMES
 
 -- the rule that the energies of a take break, of which a recording with so many frames names it, or none does
 abbrev pub energies_rule : Option ℕ → List ℕ → Option RowRule
@@ -172,11 +168,12 @@ abbrev pub frames_of_take : ℕ → List RecordingRow → Option ℕ
 frames_of_take take [] = None
 frames_of_take take (r ∷ rs) = if r.take == take then Some r.summary.frames else frames_of_take take rs
 
--- the id of the nearest row, 0 where there is none
+-- the id of the nearest album's row, 0 where there is none
 abbrev pub album_before : List AlbumRow → ℕ
 album_before [] = 0
 album_before (row ∷ seen) = row.id
 
+-- that of the nearest recording's row
 abbrev pub recording_before : List RecordingRow → ℕ
 recording_before [] = 0
 recording_before (row ∷ seen) = row.id
@@ -262,10 +259,11 @@ IsFirstWithout Fact told [] bad = ⊥
 IsFirstWithout Fact told (row ∷ rows) bad =
     ((¬ Fact row) × (bad ≡ told row)) ⊎ (Fact row × IsFirstWithout Fact told rows bad)
 
--- the bad row of an album, or a recording, with another summary
+-- the bad row of an album with another summary
 abbrev pub other_album_summary : AlbumRow → BadRow
 other_album_summary row = record { table = Albums; id = row.id; rule = OtherSummary }
 
+-- that of a recording with another summary
 abbrev pub other_recording_summary : RecordingRow → BadRow
 other_recording_summary row = record { table = Recordings; id = row.id; rule = OtherSummary }
 

@@ -1,5 +1,5 @@
 -- What tables and blobs stand for.
-use Rattle.std.specs.Prelude.{◌≡◌, ◌≤◌, ℕ, List, [], ◌∷◌, length, Option, Some, map, filter, fold, ⊤}
+use Rattle.std.specs.Prelude.{◌≡◌, ◌≤◌, ℕ, true, List, [], ◌∷◌, length, Option, Some, map, filter, fold, ⊤}
 use Rattle.std.specs.List.{AllByRecursion}
 use Rattle.md5.specs.Md5.{md5}
 use Rattle.lib_base.specs.declared.files.Kind.{Kind}
@@ -16,10 +16,11 @@ use Rattle.keeper_store.specs.Puts.{put, segments_less}
 use Rattle.sound_model.specs.Albums.{IsAlbumSummary}
 use Rattle.library_model.specs.declared.limits.TheConstants.{MOST_BODY_BYTES}
 use Rattle.library_model.specs.declared.messages.Command.{Command}
-use Rattle.library_model.specs.declared.messages.Command.TheVariants.{Import}
-use Rattle.library_model.specs.Asked.{Asked, change, question}
+use Rattle.library_model.specs.declared.messages.Command.TheVariants.{NewAlbum, Import, Retake, Regroup, RemoveRecording, RemoveAlbum}
+use Rattle.library_model.specs.Asked.{Asked, Wanted, change, command, malformed, question, refused}
 use Rattle.library_model.specs.Findings.{Finds, kind_of, measured, measured_of}
 use Rattle.library_model.specs.InOrder.{AreInOrder}
+use Rattle.library_model.specs.Names.{is_name, is_token}
 use Rattle.library_model.specs.RowRules.{is_in_album}
 use Rattle.library_model.specs.State.{Album, Kept, Recording, State}
 
@@ -119,18 +120,39 @@ pub record IsValid (s : State) : Type 0 where
 abbrev pub HoldsFiles : Blobs → List Recording → Type 0
 HoldsFiles blobs recordings = AllByRecursion (λ (r : Recording). blobs r.take ≡ Some r.file) recordings
 
--- the file that a command brings, where it brings one, is within the limit
+-- what a command brings has its form: its name is one, and its file is within the limit
 abbrev pub BringsWithin : Command → Type 0
-BringsWithin (Import file) = IsWithinLimit file
+BringsWithin (NewAlbum name) = is_name name ≡ true
+BringsWithin (Import album name file) = (is_name name ≡ true) × IsWithinLimit file
+BringsWithin (Retake recording file) = IsWithinLimit file
+BringsWithin (Regroup recording album) = ⊤
+BringsWithin (RemoveRecording recording) = ⊤
+BringsWithin (RemoveAlbum album) = ⊤
 
--- so is that of what is asked
+-- so has what a change wants
+abbrev pub WantsWithin : Wanted → Type 0
+WantsWithin (malformed reply) = ⊤
+WantsWithin (command wanted) = BringsWithin wanted
+
+-- and what is asked, and its token is one
 abbrev pub AsksWithin : Asked → Type 0
-AsksWithin (change request) = BringsWithin request.command
+AsksWithin (refused reply) = ⊤
 AsksWithin (question about) = ⊤
+AsksWithin (change token mark wanted) = (is_token token ≡ true) × WantsWithin wanted
 
 -- the key holds the file that a command brings, where it brings one
 abbrev pub HoldsFileOf : Command → ℕ → Blobs → Type 0
-HoldsFileOf (Import file) key blobs = blobs key ≡ Some file
+HoldsFileOf (NewAlbum name) key blobs = ⊤
+HoldsFileOf (Import album name file) key blobs = blobs key ≡ Some file
+HoldsFileOf (Retake recording file) key blobs = blobs key ≡ Some file
+HoldsFileOf (Regroup recording album) key blobs = ⊤
+HoldsFileOf (RemoveRecording recording) key blobs = ⊤
+HoldsFileOf (RemoveAlbum album) key blobs = ⊤
+
+-- the key holds the file that is brought with what is wanted, where one is
+abbrev pub HoldsWanted : Wanted → ℕ → Blobs → Type 0
+HoldsWanted (malformed reply) key blobs = ⊤
+HoldsWanted (command wanted) key blobs = HoldsFileOf wanted key blobs
 
 -- Tables and blobs stand for a state: a valid one, whose tables and files they are. Other keys may hold anything or nothing.
 pub record Stands (tables : Tables) (blobs : Blobs) (s : State) : Type 0 where

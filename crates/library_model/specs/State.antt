@@ -49,10 +49,6 @@ empty_state = record {
   replies = [];
 }
 
--- where the counters end: no number from here on is given
-abbrev pub numbers_end : ℕ
-numbers_end = 2147483647
-
 -- albums ascend by their ids
 abbrev pub album_before : Album → Album → Bool
 album_before a b = nat_lt a.id b.id

@@ -12,5 +12,5 @@ mod messages;
 mod refusals;
 
 pub use bad_rows::{BadRow, RowRule, RowTable};
-pub use messages::{BodyKind, Command, Question, Reply, Request};
+pub use messages::{BodyKind, Command, Question, Reply};
 pub use refusals::Refusal;

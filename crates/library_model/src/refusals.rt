@@ -7,9 +7,17 @@ ghost use Rattle.library_model.specs.Refusals.{status_of, word_of};
 pub enum Refusal {
     /// No recording has the id that is asked for.
     NoRecording,
+    /// No album has the id that is asked for, or that is named.
+    NoAlbum,
+    /// The album that is to be removed has recordings.
+    NotEmpty,
     /// The file breaks a rule at a place, which the reply tells too.
     Format,
-    /// No number is left for a new recording.
+    /// The token was given to another request.
+    TokenUsed,
+    /// An album would have too many recordings.
+    AlbumFull,
+    /// No number is left for a new album, recording or take.
     Ids,
     /// The vault counted a fault.
     Vault,
@@ -23,7 +31,15 @@ pub enum Refusal {
 // definitions cite these constants, so each status and each word stands here alone.
 const NO_RECORDING: (u16, &str) = (404, "no-recording");
 
+const NO_ALBUM: (u16, &str) = (404, "no-album");
+
+const NOT_EMPTY: (u16, &str) = (409, "not-empty");
+
+const ALBUM_FULL: (u16, &str) = (409, "album-full");
+
 const FORMAT: (u16, &str) = (422, "format");
+
+const TOKEN_USED: (u16, &str) = (409, "token-used");
 
 const IDS: (u16, &str) = (409, "ids");
 
@@ -54,7 +70,11 @@ impl Refusal {
     {
         match self {
             Refusal::NoRecording => NO_RECORDING,
+            Refusal::NoAlbum => NO_ALBUM,
+            Refusal::NotEmpty => NOT_EMPTY,
+            Refusal::AlbumFull => ALBUM_FULL,
             Refusal::Format => FORMAT,
+            Refusal::TokenUsed => TOKEN_USED,
             Refusal::Ids => IDS,
             Refusal::Vault => VAULT,
             Refusal::Keeper => KEEPER,

@@ -4,7 +4,7 @@ use Rattle.std.specs.Prelude.{◌&&◌, sum}
 use Rattle.std.proofs.lemmas.Bool.{cases_lt}
 use Rattle.std.proofs.lemmas.Bool.Decides.{nat_tests}
 use Rattle.std.proofs.Math.Nat.{mul-le-mul_right}
-use Rattle.sound_model.specs.Loudness.{full_power}
+use Rattle.lib_base.specs.declared.limits.TheConstants.{FULL_POWER}
 use Rattle.sound_model.specs.Ranges.{is_window_audible, is_window_near}
 
 -- a number is reached by so many times another exactly where the quotient, rounded up, is reached by the other
@@ -41,7 +41,7 @@ least_audible = 30414610299944660
 
 audible_reached : (e : ℕ) → nat_le least_audible e ≡ is_window_audible e
 unfolding is_window_audible
-audible_reached e = ceiling_reached least_audible (125 * 10 ^ 7) (180 * full_power) e (omega arith) (omega arith)
+audible_reached e = ceiling_reached least_audible (125 * 10 ^ 7) (180 * FULL_POWER) e (omega arith) (omega arith)
 
 -- what reaches the greater of both bounds passes both gates
 pub near_reached : (audible : List ℕ) (e bound near count total : ℕ) → bound ≡ max near least_audible → count ≡ length audible → total ≡ sum audible

@@ -2,13 +2,11 @@
 ghost use Rattle.std.specs.Prelude.{◌≡◌, ◌^◌, ◌<◌, ◌≤◌, ℕ, All, filter, length, sum, IfOk};
 ghost use Rattle.sound_model.specs.Ranges.{is_window_audible, is_window_near, gated_windows};
 
-use lib_base::Memory;
+use lib_base::{FULL_POWER, Memory};
 use std::alloc::Global;
 
-/// 10^7 times the square of full scale, 2^54, times 10^0.0691.
-pub(crate) const FULL_POWER: u128 = 11_724_653 << 54;
-
-/// The windows that pass both gates: of those from -70 LUFS on, those from their mean less 20 LU on.
+/// The windows that pass both gates: of those from the absolute threshold on, those from the
+/// relative one on.
 pub(crate) fn gated_windows(alloc: Global, windows: &[u128]) -> Result<Vec<u128>, Memory>
     requires few { length windows.now ≤ 2 ^ 25 }
     requires small { All (λ (z : ℕ). z < 2 ^ 87) windows.now }
@@ -18,7 +16,7 @@ pub(crate) fn gated_windows(alloc: Global, windows: &[u128]) -> Result<Vec<u128>
     near_windows(alloc, &audible)
 }
 
-/// The windows from -70 LUFS on.
+/// The windows from the absolute threshold on, -70 LUFS.
 fn audible_windows(alloc: Global, windows: &[u128]) -> Result<Vec<u128>, Memory>
     requires { All (λ (z : ℕ). z < 2 ^ 87) windows.now }
     ensures { IfOk result (λ audible. audible.items ≡ filter is_window_audible windows.now) }
@@ -32,7 +30,7 @@ fn audible_windows(alloc: Global, windows: &[u128]) -> Result<Vec<u128>, Memory>
     Ok(audible)
 }
 
-/// Of windows, those from their mean less 20 LU on.
+/// Of windows, those from the relative threshold on, their mean less 20 LU.
 fn near_windows(alloc: Global, windows: &[u128]) -> Result<Vec<u128>, Memory>
     requires few { length windows.now ≤ 2 ^ 25 }
     requires small { All (λ (z : ℕ). z < 2 ^ 87) windows.now }

@@ -2,12 +2,12 @@
 ghost use Rattle.std.specs.Prelude.{◌≡◌, ◌≤◌, ◌<◌, ◌+◌, ◌*◌, ◌^◌, ◌&&◌, ℕ, List, filter, length, sum, nat_le, true, All};
 ghost use Rattle.sound_model.specs.Ranges.{is_window_audible, is_window_near};
 
-use crate::gates::FULL_POWER;
+use lib_base::FULL_POWER;
 
 /// 125 * 10^7: an energy times this reaches 180 times `FULL_POWER` from -70 LUFS on.
 const SCALE: u128 = 1_250_000_000;
 
-/// The least energy of a window from -70 LUFS on.
+/// The least energy of a window from the absolute threshold on, -70 LUFS.
 const LEAST_AUDIBLE: u128 = (180 * FULL_POWER + SCALE - 1) / SCALE;
 
 /// How many windows are from -70 LUFS on, and the sum of their energies.
@@ -58,7 +58,7 @@ impl WindowTally {
     }
 }
 
-/// Tallies the windows from -70 LUFS on.
+/// Tallies the windows from the absolute threshold on, -70 LUFS.
 fn audible_of(windows: &[u128]) -> WindowTally
     requires small { All (λ (z : ℕ). z < 2 ^ 87) windows.now }
     requires few { length windows.now ≤ 2 ^ 25 }
@@ -77,7 +77,8 @@ fn audible_of(windows: &[u128]) -> WindowTally
     WindowTally { count, sum }
 }
 
-/// The least energy from the mean of what a tally counts less 20 LU on, a hundredth of it.
+/// The least energy from the relative threshold on: the mean of what a tally counts less 20 LU, a
+/// hundredth of it.
 fn least_near(tally: WindowTally) -> u128
     ensures passes { (energy : ℕ) → nat_le result energy ≡ nat_le tally.sum (100 * tally.count * energy) }
     ensures small { result ≤ 2 ^ 87 }

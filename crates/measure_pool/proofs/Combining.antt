@@ -3,8 +3,9 @@ use Rattle.std.proofs.Common.{◌≡◌, ◌≤◌, ◌<◌, ◌+◌, ◌*◌, �
 use Rattle.std.specs.Prelude.{ℤ}
 use Rattle.std.proofs.lemmas.List.{take_more, take_all, ext_get_or, length-replicate, get_or-replicate}
 use Rattle.std.proofs.lemmas.Nat.{mul-le}
+use Rattle.lib_base.specs.declared.limits.TheConstants.{GREATEST_ENERGY, SEGMENT_FRAMES}
 use Rattle.sound_model.specs.Weighted.{weighted}
-use Rattle.sound_model.specs.Segments.{segment_energy, first_segments, segments_of, energy_over, first_energies, energies, weights, greatest_energy}
+use Rattle.sound_model.specs.Segments.{segment_energy, first_segments, segments_of, energy_over, first_energies, energies, weights}
 use Rattle.sound_model.proofs.EnergyBounds.{length-weighted, energy_over_within, length-first_segments, first_segments-get_or, length-first_energies, first_energies-get_or, length-weights, few_weights}
 use Rattle.measure_pool.specs.Totals.{partial_energy, AreTotals}
 
@@ -29,9 +30,9 @@ partial_energy_more depth ws lists c j same below =
 
 -- totals over all channels are the energies
 pub totals_are_energies : (depth frames : ℕ) (lists : List (List ℤ)) (totals : List ℕ) → 1 ≤ length lists → length lists ≤ 6
-    → length totals ≡ frames / 4800 → AreTotals depth lists (length lists) totals → totals ≡ energies depth frames lists
+    → length totals ≡ frames / SEGMENT_FRAMES → AreTotals depth lists (length lists) totals → totals ≡ energies depth frames lists
 totals_are_energies depth frames lists totals some few whole are =
-    let n = frames / 4800 in
+    let n = frames / SEGMENT_FRAMES in
     ext_get_or 0 totals (first_energies depth n lists) (whole ∙ sym (length-first_energies depth n lists))
     (λ j below.
     let all_weights = take_all (length lists) (weights (length lists)) (let count = length-weights (length lists) some few in omega (arith, count)) in
@@ -41,22 +42,22 @@ totals_are_energies depth frames lists totals some few whole are =
 
 -- the energies of one channel, at a place
 channel_energy : (depth frames j : ℕ) (samples : List ℤ) (one : List ℕ) → length samples ≡ frames → one ≡ segments_of (weighted depth samples)
-    → j < frames / 4800 → get_or one j 0 ≡ segment_energy (weighted depth samples) j
+    → j < frames / SEGMENT_FRAMES → get_or one j 0 ≡ segment_energy (weighted depth samples) j
 channel_energy depth frames j samples one whole is below =
     let values = weighted depth samples in
     let count = length-weighted depth samples in
-    let within : j < length values / 4800 = omega (arith, count, whole, below) in
-    ap (λ (energies : List ℕ). get_or energies j 0) is ∙ first_segments-get_or (length values / 4800) j values within
+    let within : j < length values / SEGMENT_FRAMES = omega (arith, count, whole, below) in
+    ap (λ (energies : List ℕ). get_or energies j 0) is ∙ first_segments-get_or (length values / SEGMENT_FRAMES) j values within
 
 pub length-channel : (depth frames : ℕ) (samples : List ℤ) (one : List ℕ) → length samples ≡ frames → one ≡ segments_of (weighted depth samples)
-    → length one ≡ frames / 4800
+    → length one ≡ frames / SEGMENT_FRAMES
 length-channel depth frames samples one whole is =
-    ap length is ∙ length-first_segments (length (weighted depth samples) / 4800) (weighted depth samples)
-    ∙ ap (λ (n : ℕ). n / 4800) (length-weighted depth samples ∙ whole)
+    ap length is ∙ length-first_segments (length (weighted depth samples) / SEGMENT_FRAMES) (weighted depth samples)
+    ∙ ap (λ (n : ℕ). n / SEGMENT_FRAMES) (length-weighted depth samples ∙ whole)
 
 -- a total and the next channel's energy, with its weight, are the total over one channel more
 next_total : (depth frames c j weight : ℕ) (lists : List (List ℤ)) (totals one : List ℕ) → 1 ≤ length lists → length lists ≤ 6 → c < length lists
-    → length totals ≡ frames / 4800 → AreTotals depth lists c totals → length (get_or lists c []) ≡ frames
+    → length totals ≡ frames / SEGMENT_FRAMES → AreTotals depth lists c totals → length (get_or lists c []) ≡ frames
     → one ≡ segments_of (weighted depth (get_or lists c [])) → weight ≡ get_or (weights (length lists)) c 0 → j < length totals
     → get_or totals j 0 + weight * get_or one j 0 ≡ partial_energy depth (weights (length lists)) lists (c + 1) j
 next_total depth frames c j weight lists totals one some few channel whole are long one_is weight_is below =
@@ -69,19 +70,19 @@ next_total depth frames c j weight lists totals one some few channel whole are l
     ∙ sym (partial_energy_more depth ws lists c j (length-weights (length lists) some few) channel)
 
 pub totals_within : (depth frames c weight : ℕ) (lists : List (List ℤ)) (totals one : List ℕ) → 1 ≤ length lists → length lists ≤ 6 → c < length lists
-    → length totals ≡ frames / 4800 → AreTotals depth lists c totals → length (get_or lists c []) ≡ frames
+    → length totals ≡ frames / SEGMENT_FRAMES → AreTotals depth lists c totals → length (get_or lists c []) ≡ frames
     → one ≡ segments_of (weighted depth (get_or lists c [])) → weight ≡ get_or (weights (length lists)) c 0
-    → (j : ℕ) → j < length totals → get_or totals j 0 + weight * get_or one j 0 ≤ greatest_energy
+    → (j : ℕ) → j < length totals → get_or totals j 0 + weight * get_or one j 0 ≤ GREATEST_ENERGY
 totals_within depth frames c weight lists totals one some few channel whole are long one_is weight_is j below =
     let ws = weights (length lists) in
     let next = next_total depth frames c j weight lists totals one some few channel whole are long one_is weight_is below in
     let bound = energy_over_within depth (take (c + 1) ws) (take (c + 1) lists) j in
     let weighed = few_weights (length lists) (c + 1) some few in
-    let least = mul-le (sum (take (c + 1) ws)) (4800 * 2 ^ 60) 582 (4800 * 2 ^ 60) weighed (omega arith) in
+    let least = mul-le (sum (take (c + 1) ws)) (SEGMENT_FRAMES * 2 ^ 60) 582 (SEGMENT_FRAMES * 2 ^ 60) weighed (omega arith) in
     omega (arith, next, bound, least)
 
 pub more_totals : (depth frames c weight : ℕ) (lists : List (List ℤ)) (totals one new : List ℕ) → 1 ≤ length lists → length lists ≤ 6 → c < length lists
-    → length totals ≡ frames / 4800 → AreTotals depth lists c totals → length (get_or lists c []) ≡ frames
+    → length totals ≡ frames / SEGMENT_FRAMES → AreTotals depth lists c totals → length (get_or lists c []) ≡ frames
     → one ≡ segments_of (weighted depth (get_or lists c [])) → weight ≡ get_or (weights (length lists)) c 0 → length new ≡ length totals
     → ((j : ℕ) → j < length totals → get_or new j 0 ≡ get_or totals j 0 + weight * get_or one j 0)
     → AreTotals depth lists (c + 1) new

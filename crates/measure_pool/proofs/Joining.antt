@@ -5,6 +5,7 @@ use Rattle.std.proofs.lemmas.Bool.Decides.{nat_tests}
 use Rattle.std.proofs.lemmas.List.{take_all}
 use Rattle.std.proofs.lemmas.List.Elements.{All-get_or}
 use Rattle.std.proofs.lemmas.Nat.{div-mul-add, mod-mul-add}
+use Rattle.lib_base.specs.declared.limits.TheConstants.{PEAK_REACH}
 use Rattle.sound_model.specs.Peaks.{peak_over, peak_of}
 use Rattle.sound_model.proofs.PeakStretches.{peak_over-join, peak_of-step}
 use Rattle.measure_pool.specs.Jobs.{found_by, peak_of_jobs}
@@ -49,9 +50,9 @@ after_whole depth frames lists plan (suc n) equal within inside =
     let below : n < length lists = omega (arith, within, inside) in
     let before = after_whole depth frames lists plan n equal within (omega (arith, inside)) in
     let long = All-get_or (λ (xs : List ℤ). length xs ≡ frames) lists n [] below equal in
-    let own : (found_by depth lists (job_at plan n)).peak ≡ peak_over depth (get_or lists n []) 0 (frames + 11) =
+    let own : (found_by depth lists (job_at plan n)).peak ≡ peak_over depth (get_or lists n []) 0 (frames + PEAK_REACH) =
     ap (λ (job : Job). (found_by depth lists job).peak) (whole_job plan n (omega (arith, inside)))
-    ∙ ap (λ (count : ℕ). peak_over depth (get_or lists n []) 0 (count + 11)) long in
+    ∙ ap (λ (count : ℕ). peak_over depth (get_or lists n []) 0 (count + PEAK_REACH)) long in
     peak_of-step depth frames lists n (peak_of_jobs depth lists plan n) (found_by depth lists (job_at plan n)).peak
     (peak_of_jobs depth lists plan (suc n)) below before own refl
     ∙ ap (λ (count : ℕ). peak_of depth frames (take count lists)) (add-one n)
@@ -114,7 +115,7 @@ after_stretches depth frames lists plan c (suc i) within inside before =
 
 -- after all stretches of some channels, the peak is that of these channels and of those before them
 after_channels : (depth frames : ℕ) (lists : List (List ℤ)) (plan : Plan) (c : ℕ) → All (λ xs. length xs ≡ frames) lists → plan.whole ≤ plan.channels
-    → plan.channels ≡ length lists → plan.end ≡ frames + 11 → plan.end ≤ plan.stretches * plan.size → plan.whole + c ≤ plan.channels
+    → plan.channels ≡ length lists → plan.end ≡ frames + PEAK_REACH → plan.end ≤ plan.stretches * plan.size → plan.whole + c ≤ plan.channels
     → peak_of_jobs depth lists plan (plan.channels + c * plan.stretches) ≡ peak_of depth frames (take (plan.whole + c) lists)
 after_channels depth frames lists plan zero equal within all end covers inside =
     let left = plan.channels - plan.whole in
@@ -126,21 +127,21 @@ after_channels depth frames lists plan zero equal within all end covers inside =
 after_channels depth frames lists plan (suc c) equal within all end covers inside =
     let samples = get_or lists (plan.whole + c) [] in
     let row : plan.channels + suc c * plan.stretches ≡ plan.channels + (c * plan.stretches + plan.stretches) = omega arith in
-    let last : cut_at plan plan.stretches ≡ frames + 11 = omega (arith, end, covers) in
+    let last : cut_at plan plan.stretches ≡ frames + PEAK_REACH = omega (arith, end, covers) in
     let before = after_channels depth frames lists plan c equal within all end covers (omega (arith, inside)) in
     let next : (plan.whole + c) + 1 ≡ plan.whole + suc c = omega arith in
     let most : peak_of_jobs depth lists plan (plan.channels + (c * plan.stretches + plan.stretches))
-    ≡ max (peak_of depth frames (take (plan.whole + c) lists)) (peak_over depth samples 0 (frames + 11)) =
+    ≡ max (peak_of depth frames (take (plan.whole + c) lists)) (peak_over depth samples 0 (frames + PEAK_REACH)) =
     after_stretches depth frames lists plan c plan.stretches within (omega arith) before
     ∙ ap (λ (to : ℕ). max (peak_of depth frames (take (plan.whole + c) lists)) (peak_over depth samples 0 to)) last in
     ap (λ (n : ℕ). peak_of_jobs depth lists plan n) row
-    ∙ peak_of-step depth frames lists (plan.whole + c) (peak_of depth frames (take (plan.whole + c) lists)) (peak_over depth samples 0 (frames + 11))
+    ∙ peak_of-step depth frames lists (plan.whole + c) (peak_of depth frames (take (plan.whole + c) lists)) (peak_over depth samples 0 (frames + PEAK_REACH))
     (peak_of_jobs depth lists plan (plan.channels + (c * plan.stretches + plan.stretches))) (omega (arith, inside, all)) refl refl most
     ∙ ap (λ (n : ℕ). peak_of depth frames (take n lists)) next
 
 -- all jobs of a plan find the peak of the sound
 pub peak_of_all_jobs : (depth frames : ℕ) (lists : List (List ℤ)) (plan : Plan) → All (λ xs. length xs ≡ frames) lists → plan.whole ≤ plan.channels
-    → plan.channels ≡ length lists → plan.end ≡ frames + 11 → plan.end ≤ plan.stretches * plan.size
+    → plan.channels ≡ length lists → plan.end ≡ frames + PEAK_REACH → plan.end ≤ plan.stretches * plan.size
     → peak_of_jobs depth lists plan (jobs_of plan) ≡ peak_of depth frames lists
 peak_of_all_jobs depth frames lists plan equal within all end covers =
     after_channels depth frames lists plan (plan.channels - plan.whole) equal within all end covers (omega (arith, within))

@@ -2,6 +2,7 @@
 use Rattle.std.specs.Prelude.{◌≡◌, ◌<◌, ◌+◌, ◌/◌, ℕ, zero, suc, ℤ, Bool, true, false, if◌then◌else◌, List, length, slice_index_or, min, max, Some, None, Result, IfOk}
 use Rattle.lib_base.specs.Sounds.{samples_of}
 use Rattle.lib_base.specs.declared.outcomes.Memory.{Memory}
+use Rattle.lib_base.specs.declared.limits.TheConstants.{SEGMENT_FRAMES, PEAK_REACH}
 use Rattle.sound_model.specs.Peaks.{peak_over}
 use Rattle.sound_model.specs.Segments.{segments_of}
 use Rattle.sound_model.specs.Weighted.{weighted}
@@ -16,7 +17,7 @@ use Rattle.measure_pool.specs.declared.plans.Job.TheVariants.{Whole, Segments, P
 abbrev pub found_in : Bool → ℕ → List ℤ → Found
 found_in with_peak depth samples = record {
   energies = Some (segments_of (weighted depth samples));
-  peak = if with_peak then peak_over depth samples 0 (length samples + 11) else 0;
+  peak = if with_peak then peak_over depth samples 0 (length samples + PEAK_REACH) else 0;
 }
 
 -- what a job finds in a sound
@@ -40,6 +41,6 @@ peak_of_jobs depth lists plan (suc n) = max (peak_of_jobs depth lists plan n) (f
 
 -- What the first so many jobs find, put together: energies added up over channels, each with its weight, and the greatest peak.
 pub record AreGathered (depth frames : ℕ) (lists : List (List ℤ)) (plan : Plan) (jobs : ℕ) (sums : List ℕ) (most : ℕ) : Type 0 where
-  pub count : length sums ≡ frames / 4800
+  pub count : length sums ≡ frames / SEGMENT_FRAMES
   pub totals : AreTotals depth lists (min jobs (length lists)) sums
   pub peak : most ≡ peak_of_jobs depth lists plan jobs

@@ -1,14 +1,15 @@
 -- The jobs that a sound is cut into.
 use Rattle.std.specs.Prelude.{◌≡◌, ◌≤◌, ◌<◌, ◌+◌, ◌-◌, ◌*◌, ◌/◌, ◌%◌, ℕ, min, nat_lt, if◌then◌else◌}
+use Rattle.lib_base.specs.declared.limits.TheConstants.{PEAK_REACH}
 use Rattle.measure_pool.specs.declared.plans.Plan.{Plan}
 use Rattle.measure_pool.specs.declared.plans.Stretch.{Stretch}
 use Rattle.measure_pool.specs.declared.plans.Job.{Job}
 use Rattle.measure_pool.specs.declared.plans.Job.TheVariants.{Whole, Segments, Peak}
 
--- the plan is of a sound with so many channels and frames: the peak has eleven places past the end
+-- the plan is of a sound with so many channels and frames: the peak has the places past the end that its filter reaches
 pub record IsPlanOf (plan : Plan) (count frames : ℕ) : Type 0 where
   pub channels : plan.channels ≡ count
-  pub end : plan.end ≡ frames + 11
+  pub end : plan.end ≡ frames + PEAK_REACH
 
 -- how many jobs there are
 abbrev pub jobs_of : Plan → ℕ

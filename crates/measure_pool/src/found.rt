@@ -1,6 +1,7 @@
 //! What jobs find, and how it is put together.
 ghost use Rattle.std.specs.Prelude.{◌≡◌, ◌<◌, ◌+◌, ◌/◌, ◌^◌, length, replicate, IfOk};
 ghost use Rattle.lib_base.specs.Sounds.{IsSound, samples_of};
+ghost use Rattle.lib_base.specs.declared.limits.TheConstants.{SEGMENT_FRAMES};
 ghost use Rattle.sound_model.specs.Segments.{segments_of};
 ghost use Rattle.sound_model.specs.Weighted.{weighted};
 ghost use Rattle.measure_pool.specs.Jobs.{found_by, AreFound, AreGathered};
@@ -85,7 +86,7 @@ fn add_channel<S: Sound>(sound: &S, channel: usize, energies: &[u128], totals: &
     requires channel { channel < length (S.lists sound.now) }
     requires energies { energies.now
         ≡ segments_of (weighted (S.depth sound.now) (samples_of (S.lists sound.now) channel)) }
-    requires count { length totals.old ≡ S.frames sound.now / 4800 }
+    requires count { length totals.old ≡ S.frames sound.now / SEGMENT_FRAMES }
     requires totals { AreTotals (S.depth sound.now) (S.lists sound.now) channel totals.old }
     ensures { AreTotals (S.depth sound.now) (S.lists sound.now) (channel + 1) totals.new }
 {

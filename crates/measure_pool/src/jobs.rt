@@ -1,6 +1,7 @@
 //! The work of one job, with scratch and meters of its own.
 ghost use Rattle.std.specs.Prelude.{◌≡◌, ◌≤◌, ◌<◌, ◌+◌, [], length, take, IfOk, None};
 ghost use Rattle.lib_base.specs.Sounds.{samples_of};
+ghost use Rattle.lib_base.specs.declared.limits.TheConstants.{PEAK_REACH};
 ghost use Rattle.sound_model.specs.Peaks.{peak_over};
 ghost use Rattle.measure_pool.specs.Jobs.{found_in, found_by};
 ghost use Rattle.measure_pool.specs.Lines.{IsFed, takes_peak, fed_count, room_of};
@@ -15,7 +16,7 @@ use true_peak::peak_of_range;
 
 /// Does a job on a sound.
 pub fn do_job<S: Sound>(alloc: Global, sound: &S, job: Job) -> Result<Found, Memory>
-    requires { Fits (length (S.lists sound.now)) (S.frames sound.now + 11) job }
+    requires { Fits (length (S.lists sound.now)) (S.frames sound.now + PEAK_REACH) job }
     ensures { IfOk result (λ found. found ≡ found_by (S.depth sound.now) (S.lists sound.now) job) }
 {
     match job {
@@ -33,7 +34,7 @@ pub fn do_job<S: Sound>(alloc: Global, sound: &S, job: Job) -> Result<Found, Mem
 
 /// Takes the peak over a stretch.
 fn take_peak<S: Sound>(alloc: Global, sound: &S, stretch: Stretch) -> Result<Found, Memory>
-    requires { FitsStretch (length (S.lists sound.now)) (S.frames sound.now + 11) stretch }
+    requires { FitsStretch (length (S.lists sound.now)) (S.frames sound.now + PEAK_REACH) stretch }
     ensures { IfOk result (λ found. found ≡ record {
       energies = None;
       peak = peak_over (S.depth sound.now) (samples_of (S.lists sound.now) stretch.channel) stretch.from stretch.to;

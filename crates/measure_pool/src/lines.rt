@@ -1,6 +1,7 @@
 //! A channel on its way through the filter into the meter of segments, and into that of its peak.
 ghost use Rattle.std.specs.Prelude.{◌≡◌, ◌≤◌, ◌+◌, ℕ, ℤ, List, [], ◌++◌, length, All, true, false, is_some, if◌then◌else◌, IfOk, IfSome};
 ghost use Rattle.lib_base.specs.Sounds.{IsSample};
+ghost use Rattle.lib_base.specs.declared.limits.TheConstants.{LEAST_DEPTH, GREATEST_DEPTH, PEAK_REACH};
 ghost use Rattle.sound_model.specs.Peaks.{peak_over};
 ghost use Rattle.true_peak.specs.Heard.{WasFed};
 ghost use Rattle.measure_pool.specs.Jobs.{found_in};
@@ -56,8 +57,8 @@ impl Line {
     /// Takes further samples, and leaves in `filtered` what they are weighted.
     pub fn feed(&mut self, samples: &[i32], depth: u32, filtered: &mut [i32])
         requires equal { length samples.now ≡ length filtered.old }
-        requires low { 4 ≤ depth }
-        requires high { depth ≤ 24 }
+        requires low { LEAST_DEPTH ≤ depth }
+        requires high { depth ≤ GREATEST_DEPTH }
         requires within { All (IsSample depth) samples.now }
         requires room { fed_count self.old + length samples.now ≤ room_of self.old }
         ensures fed { (fed : List ℤ) → IsFed self.old depth fed → IsFed self.new depth (fed ++ samples.now) }
@@ -86,8 +87,8 @@ impl Line {
 
 /// The meter, fed further samples, where there is one.
 fn fed_further(peak: Option<PeakMeter>, samples: &[i32], depth: u32) -> Option<PeakMeter>
-    requires low { 4 ≤ depth }
-    requires high { depth ≤ 24 }
+    requires low { LEAST_DEPTH ≤ depth }
+    requires high { depth ≤ GREATEST_DEPTH }
     requires within { All (IsSample depth) samples.now }
     ensures fed { (fed : List ℤ) → IfSome peak (λ meter. WasFed meter depth fed)
         → IfSome result (λ meter. WasFed meter depth (fed ++ samples.now)) }
@@ -105,7 +106,7 @@ fn fed_further(peak: Option<PeakMeter>, samples: &[i32], depth: u32) -> Option<P
 /// The peak of what the meter was fed, and 0 where there is none.
 fn peak_of(peak: Option<PeakMeter>) -> u64
     ensures { (depth : ℕ) (fed : List ℤ) → IfSome peak (λ meter. WasFed meter depth fed)
-        → result ≡ (if is_some peak then peak_over depth fed 0 (length fed + 11) else 0) }
+        → result ≡ (if is_some peak then peak_over depth fed 0 (length fed + PEAK_REACH) else 0) }
 {
     match peak {
         Some(meter) => meter.finish(),

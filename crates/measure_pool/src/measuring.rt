@@ -1,7 +1,8 @@
 //! What is measured of a sound.
 ghost use Rattle.std.specs.Prelude.{◌≡◌, ◌≤◌, length, IfOk};
 ghost use Rattle.lib_base.specs.Sounds.{IsSound};
-ghost use Rattle.sound_model.specs.Summaries.{measured, most_frames, IsWithinBounds};
+ghost use Rattle.lib_base.specs.declared.limits.TheConstants.{MOST_SAMPLES};
+ghost use Rattle.sound_model.specs.Summaries.{measured, IsWithinBounds};
 ghost use Rattle.measure_pool.specs.Jobs.{AreGathered};
 ghost use Rattle.measure_pool.specs.Plans.{IsPlanOf, jobs_of};
 ghost use Rattle.measure_pool.specs.declared.plans.TheConstants.{MOST_WORKERS};
@@ -10,12 +11,9 @@ use crate::found::zeros;
 use crate::gates::Gate;
 use crate::plans::Plan;
 use crate::rounds::do_all;
-use lib_base::{Energies, Measured, Memory, Sound};
+use lib_base::{Energies, Measured, Memory, SEGMENT_FRAMES, Sound};
 use std::alloc::Global;
 use std::thread::Threads;
-
-/// How many frames a segment has.
-const SEGMENT: u64 = 4800;
 
 /// What is measured of a sound: its channels, the bits of a sample, its frames, the weighted energies
 /// of its segments, and its peak (BS.1770-4 Annexes 1 and 2).
@@ -34,10 +32,10 @@ pub fn measure<R: Threads + Sync, S: Sound, G: Gate>(
     requires most { workers ≤ MOST_WORKERS }
     ensures measured { IfOk result (λ m.
         m ≡ measured (S.depth sound.now) (S.frames sound.now) (S.lists sound.now)) }
-    ensures within { IfOk result (λ m. S.frames sound.now ≤ most_frames → IsWithinBounds m) }
+    ensures within { IfOk result (λ m. S.frames sound.now ≤ MOST_SAMPLES → IsWithinBounds m) }
 {
     let plan = Plan::of(sound, workers as usize);
-    let mut totals = zeros(alloc, (sound.frames() / SEGMENT) as usize)?;
+    let mut totals = zeros(alloc, sound.frames() as usize / SEGMENT_FRAMES)?;
     let peak = do_all(
         rt,
         alloc,
@@ -57,7 +55,7 @@ fn measured_of<S: Sound>(sound: &S, plan: Plan, energies: Energies, peak: u64) -
     requires gathered { AreGathered (S.depth sound.now) (S.frames sound.now) (S.lists sound.now)
         plan (jobs_of plan) energies peak }
     ensures measured { result ≡ measured (S.depth sound.now) (S.frames sound.now) (S.lists sound.now) }
-    ensures within { S.frames sound.now ≤ most_frames → IsWithinBounds result }
+    ensures within { S.frames sound.now ≤ MOST_SAMPLES → IsWithinBounds result }
 {
     Measured {
         channels: sound.channels() as u8,

@@ -1,14 +1,12 @@
 //! How the measuring of a sound is cut into jobs.
 ghost use Rattle.std.specs.Prelude.{◌≡◌, ◌≤◌, ◌<◌, ◌-◌, ◌*◌, ◌^◌, length};
 ghost use Rattle.lib_base.specs.Sounds.{IsSound};
+ghost use Rattle.lib_base.specs.declared.limits.TheConstants.{MOST_CHANNELS};
 
-use lib_base::Sound;
+use lib_base::{PEAK_REACH, SAMPLE_RATE, Sound};
 
 /// How many workers a sound is measured by at most.
 pub const MOST_WORKERS: u32 = 64;
-
-/// How many places the peak's filter runs past the end of a channel.
-const RUN_OUT: u64 = 11;
 
 /// How many places a stretch has at least. The eleven before it, which it reads again, then count
 /// little, even where they stand in a frame of a few thousand samples that is decoded again for them.
@@ -16,7 +14,7 @@ const LEAST_STRETCH: u64 = 16_384;
 
 /// A channel with fewer places, those of a second, is gone over too fast for more jobs to gain
 /// anything.
-const SHORT: u64 = 48_000;
+const SHORT: u64 = SAMPLE_RATE as u64;
 
 /// What one job does.
 #[derive(Clone, Copy, Debug)]
@@ -53,7 +51,7 @@ pub struct Plan {
     ghost whole_within: { whole ≤ channels },
     ghost some: { 0 < stretches },
     ghost covers: { end ≤ stretches * size },
-    ghost few: { channels ≤ 6 },
+    ghost few: { channels ≤ MOST_CHANNELS },
     ghost few_stretches: { stretches ≤ 64 },
 }
 
@@ -73,7 +71,7 @@ impl Plan {
         ensures { IsPlanOf result (length (S.lists sound.now)) (S.frames sound.now) }
     {
         let channels = sound.channels();
-        let end = sound.frames() + RUN_OUT;
+        let end = sound.frames() + PEAK_REACH as u64;
         let left = channels % workers;
         if left == 0 || end < SHORT {
             Plan::with(channels, channels, end, 1)
@@ -89,7 +87,7 @@ impl Plan {
 
     /// The plan with so many channels gone over once, and so many stretches of each other one.
     pub fn with(channels: usize, whole: usize, end: u64, stretches: usize) -> Plan
-        requires channels { channels ≤ 6 }
+        requires channels { channels ≤ MOST_CHANNELS }
         requires whole { whole ≤ channels }
         requires end { end < 2 ^ 63 }
         requires some { 1 ≤ stretches }

@@ -1,6 +1,7 @@
 //! Rounds of jobs, each round in threads that end before the next one begins.
 ghost use Rattle.std.specs.Prelude.{◌≡◌, ◌≤◌, ◌<◌, ◌+◌, ◌/◌, length, replicate, vec_len, IfOk};
 ghost use Rattle.lib_base.specs.Sounds.{IsSound};
+ghost use Rattle.lib_base.specs.declared.limits.TheConstants.{SEGMENT_FRAMES};
 ghost use Rattle.measure_pool.specs.Jobs.{found_by, AreFound, AreGathered};
 ghost use Rattle.measure_pool.specs.Plans.{IsPlanOf, job_at, jobs_of};
 
@@ -27,7 +28,7 @@ pub fn do_all<R: Threads + Sync, S: Sound, G: Gate>(
     requires sound { IsSound (S.lists sound.now) (S.depth sound.now) (S.frames sound.now) }
     requires plan { IsPlanOf plan (length (S.lists sound.now)) (S.frames sound.now) }
     requires some { 1 ≤ workers }
-    requires zeros { totals.old ≡ replicate (S.frames sound.now / 4800) 0 }
+    requires zeros { totals.old ≡ replicate (S.frames sound.now / SEGMENT_FRAMES) 0 }
     ensures { IfOk result (λ most.
         AreGathered (S.depth sound.now) (S.frames sound.now) (S.lists sound.now) plan (jobs_of plan) totals.new most) }
 {

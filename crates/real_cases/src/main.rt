@@ -8,6 +8,7 @@ mod batches;
 mod blobs;
 mod failing_files;
 mod keepers;
+mod peers;
 mod spoiled;
 
 use lib_base::Text;
@@ -17,7 +18,8 @@ use std::{fs, io};
 fn main(rt: HostRuntime) -> io::Result<()> {
     keepers::run(&rt)?;
     spoiled::run(&rt)?;
-    blobs::run(&rt)
+    blobs::run(&rt)?;
+    peers::run(&rt, &rt)
 }
 
 /// A text of these letters.

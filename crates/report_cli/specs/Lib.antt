@@ -1,2 +1,5 @@
+pub mod Connections
+pub mod Lines
 pub mod Running
+pub mod Seen
 pub mod Statuses

@@ -1,34 +1,28 @@
 //! A run of the program: its words, the opening of the library, and the command.
-ghost use Rattle.std.specs.Prelude.{◌≡◌, ◌≢◌, ◌≤◌, ◌↔◌, ℕ, List, Option, false, map, IfSome, IfOk, IsTrue, string_bytes};
+ghost use Rattle.std.specs.Prelude.{◌≡◌, ◌≢◌, ◌≤◌, ℕ, List, Some, Option, map, false, IfSome, string_bytes};
 ghost use Rattle.lib_base.specs.Faults.{CountsFault};
+ghost use Rattle.cli_words.specs.Commands.{command_of, IsWithin};
 ghost use Rattle.catalogue_core.specs.Opening.{IsOpened};
-ghost use Rattle.report_cli.specs.Running.{seen, IsCommand, usage_line, bad_row_line, row_line, Prints, Course, Runs, SessionRan, HasBadRow, Causes};
-ghost use Rattle.report_cli.specs.Statuses.{code, status_of};
-ghost use Rattle.library_http.specs.declared.serving.How.{How};
+ghost use Rattle.report_cli.specs.Running.{Course, Runs, CarriesOut, HasBadRow, Causes};
+ghost use Rattle.report_cli.specs.Seen.{seen};
+ghost use Rattle.report_cli.specs.Statuses.{code, IsOfCommand};
 
+use crate::lines::{print_bad_row, print_usage};
+use crate::serving::serve;
 use crate::statuses::Status;
 use catalogue_core::{Library, OpenRefusal};
+use cli_words::{Command, read_command};
 use keeper_store::{Keeper, Tables, Vault};
-use lib_base::{Door, Memory, Outside, Sink, Source, write_all};
+use lib_base::{Door, Memory, Sink, Source};
 use library_http::session;
-use library_model::BadRow;
 use std::alloc::Global;
 use std::thread::Threads;
 
-/// How many workers measure a sound.
-const WORKERS: u32 = 4;
-
-/// How many requests a session answers at most.
-const REQUESTS: u32 = 1_000_000;
-
-/// The line for words that are no command.
-const USAGE: &[u8] = b"usage: loudlib session, serve, report, audit, trial or tag\n";
-
 /// Runs the command that the words give, over these objects, and answers the exit status.
 ///
-/// `session` opens the library of the keeper's tables, reads the source to its end, answers the
-/// requests in it in order, and writes their replies to the sink. Other words are no command. No
-/// command uses the door yet.
+/// `session` opens the library of the keeper's tables, answers the requests of the source in order,
+/// and writes their replies to the sink. `serve` does so for each connection that the door lets in,
+/// one after another, and writes a line for each to the sink. Other words are no command.
 pub fn run<R: Threads + Sync, S: Source, K: Sink, D: Keeper, V: Vault, O: Door>(
     rt: &R,
     alloc: Global,
@@ -40,137 +34,117 @@ pub fn run<R: Threads + Sync, S: Source, K: Sink, D: Keeper, V: Vault, O: Door>(
     door: &mut O,
 ) -> u8
     requires { (O.shown door.old).is_out ≡ false }
-
     ensures runs { (course : Course) × Runs course (map string_bytes words.now)
-        (seen (S.shown source.old) (K.shown sink.old) (D.shown keeper.old) (V.shown vault.old))
-        (seen (S.shown source.new) (K.shown sink.new) (D.shown keeper.new) (V.shown vault.new))
+        (seen (S.shown source.old) (K.shown sink.old) (D.shown keeper.old) (V.shown vault.old) (O.shown door.old))
+        (seen (S.shown source.new) (K.shown sink.new) (D.shown keeper.new) (V.shown vault.new) (O.shown door.new))
         result }
     ensures causes { Causes (map string_bytes words.now)
-        (seen (S.shown source.old) (K.shown sink.old) (D.shown keeper.old) (V.shown vault.old))
-        (seen (S.shown source.new) (K.shown sink.new) (D.shown keeper.new) (V.shown vault.new))
+        (seen (S.shown source.old) (K.shown sink.old) (D.shown keeper.old) (V.shown vault.old) (O.shown door.old))
+        (seen (S.shown source.new) (K.shown sink.new) (D.shown keeper.new) (V.shown vault.new) (O.shown door.new))
         result }
-
-    // No command lets a connection in.
-    ensures door { door.new ≡ door.old }
     ensures none_out { (O.shown door.new).is_out ≡ false }
 {
-    if is_session(words) {
-        run_session(rt, alloc, source, sink, keeper, vault).code()
-    } else {
-        print(sink, USAGE, Status::Usage).code()
+    match read_command(alloc, words) {
+        Ok(Some(command)) => {
+            run_command(rt, alloc, command, source, sink, keeper, vault, door).code()
+        }
+        Ok(None) => print_usage(sink).code(),
+        Err(Memory) => Status::Memory.code(),
     }
 }
 
-/// Opens the library, and answers the session.
-fn run_session<R: Threads + Sync, S: Source, K: Sink, D: Keeper, V: Vault>(
+/// Opens the library, and carries the command out over it.
+fn run_command<R: Threads + Sync, S: Source, K: Sink, D: Keeper, V: Vault, O: Door>(
     rt: &R,
     alloc: Global,
+    command: Command,
     source: &mut S,
     sink: &mut K,
     keeper: &mut D,
     vault: &mut V,
+    door: &mut O,
 ) -> Status
-    ensures runs { (words : List (List ℕ)) → IsCommand words → (course : Course) × Runs course words
-        (seen (S.shown source.old) (K.shown sink.old) (D.shown keeper.old) (V.shown vault.old))
-        (seen (S.shown source.new) (K.shown sink.new) (D.shown keeper.new) (V.shown vault.new))
+    requires none_out { (O.shown door.old).is_out ≡ false }
+    requires within { IsWithin command }
+    ensures runs { (words : List (List ℕ)) → command_of words ≡ Some command → (course : Course) × Runs course words
+        (seen (S.shown source.old) (K.shown sink.old) (D.shown keeper.old) (V.shown vault.old) (O.shown door.old))
+        (seen (S.shown source.new) (K.shown sink.new) (D.shown keeper.new) (V.shown vault.new) (O.shown door.new))
         (code result) }
+    ensures none_out { (O.shown door.new).is_out ≡ false }
     ensures no_usage { result ≢ Status.Usage }
     ensures of_source { CountsFault (result ≡ Status.SourceFault) (S.shown source.old).faults (S.shown source.new).faults }
     ensures of_sink { CountsFault (result ≡ Status.SinkFault) (K.shown sink.old).faults (K.shown sink.new).faults }
     ensures of_keeper { CountsFault (result ≡ Status.KeeperFault) (D.shown keeper.old).faults (D.shown keeper.new).faults }
     ensures of_vault { (V.shown vault.old).faults ≤ (V.shown vault.new).faults }
+    ensures of_door { CountsFault (result ≡ Status.DoorFault) (O.shown door.old).faults (O.shown door.new).faults }
     ensures bad_row_cause { result ≡ Status.BadRow → IfSome (D.shown keeper.old).tables HasBadRow }
 {
     match Library::open(rt, alloc, keeper) {
-        Ok(library) => serve(rt, alloc, library, source, sink, keeper, vault),
+        Ok(library) => carry_out(
+            rt, alloc, command, library, source, sink, keeper, vault, door,
+        ),
         Err(OpenRefusal::KeeperFault) => Status::KeeperFault,
         Err(OpenRefusal::BadRow(bad)) => print_bad_row(alloc, bad, sink),
         Err(OpenRefusal::Memory) => Status::Memory,
     }
 }
 
-/// Runs a session over a library that was opened.
-fn serve<R: Threads + Sync, S: Source, K: Sink, D: Keeper, V: Vault>(
+/// Carries a command out over a library that was opened.
+fn carry_out<R: Threads + Sync, S: Source, K: Sink, D: Keeper, V: Vault, O: Door>(
     rt: &R,
     alloc: Global,
+    command: Command,
     mut library: Library,
     source: &mut S,
     sink: &mut K,
     keeper: &mut D,
     vault: &mut V,
+    door: &mut O,
 ) -> Status
-    ensures serves { (told : Option Tables) (opened : IsOpened told library)
-        → (how : How) × (answered : ℕ) × SessionRan opened.tables library how answered
-        (seen (S.shown source.old) (K.shown sink.old) (D.shown keeper.old) (V.shown vault.old))
-        (seen (S.shown source.new) (K.shown sink.new) (D.shown keeper.new) (V.shown vault.new))
-        × (result ≡ status_of how) }
-    ensures ended { (how : How) × (result ≡ status_of how) }
+    requires none_out { (O.shown door.old).is_out ≡ false }
+    requires within { IsWithin command }
+    ensures carries { (told : Option Tables) (opened : IsOpened told library)
+        → CarriesOut command result opened.tables library
+        (seen (S.shown source.old) (K.shown sink.old) (D.shown keeper.old) (V.shown vault.old) (O.shown door.old))
+        (seen (S.shown source.new) (K.shown sink.new) (D.shown keeper.new) (V.shown vault.new) (O.shown door.new)) }
+    ensures none_out { (O.shown door.new).is_out ≡ false }
+    ensures own { IsOfCommand result }
     ensures of_source { CountsFault (result ≡ Status.SourceFault) (S.shown source.old).faults (S.shown source.new).faults }
     ensures of_sink { CountsFault (result ≡ Status.SinkFault) (K.shown sink.old).faults (K.shown sink.new).faults }
     ensures of_keeper { (D.shown keeper.old).faults ≤ (D.shown keeper.new).faults }
     ensures of_vault { (V.shown vault.old).faults ≤ (V.shown vault.new).faults }
+    ensures of_door { CountsFault (result ≡ Status.DoorFault) (O.shown door.old).faults (O.shown door.new).faults }
 {
-    let end = session(
-        rt,
-        alloc,
-        &mut library,
-        keeper,
-        vault,
-        source,
-        sink,
-        WORKERS,
-        REQUESTS,
-    );
-    Status::of_session(end.how)
-}
-
-/// Writes the line for a row that breaks a rule.
-fn print_bad_row<K: Sink>(alloc: Global, bad: BadRow, sink: &mut K) -> Status
-    ensures prints { Prints (bad_row_line bad) Status.BadRow (K.shown sink.old) (K.shown sink.new) (code result) }
-    ensures faults { CountsFault (result ≡ Status.SinkFault) (K.shown sink.old).faults (K.shown sink.new).faults }
-{
-    match bad_row_text(alloc, bad) {
-        Ok(text) => print(sink, text.as_bytes(), Status::BadRow),
-        Err(Memory) => Status::Memory,
-    }
-}
-
-/// The line for a row that breaks a rule.
-fn bad_row_text(alloc: Global, bad: BadRow) -> Result<String, Memory>
-    ensures { IfOk result (λ text. string_bytes text ≡ bad_row_line bad) }
-{
-    let table = bad.table.number();
-    let rule = bad.rule.number();
-    row_text(alloc, table, bad.id, rule)
-}
-
-/// The line for a row of an id in a table, and the rule that it breaks, by their numbers.
-fn row_text(alloc: Global, table: u8, id: u64, rule: u8) -> Result<String, Memory>
-    ensures { IfOk result (λ text. string_bytes text ≡ row_line table id rule) }
-{
-    let text = format!(in alloc; "bad row: table {table} id {id} rule {rule}\n")?;
-    Ok(text)
-}
-
-/// Whether the words are the command `session`.
-fn is_session(words: &[String]) -> bool
-    ensures { IsTrue result ↔ IsCommand (map string_bytes words.now) }
-{
-    match words {
-        [word] => word.as_str() == "session",
-        _ => false,
-    }
-}
-
-/// Writes a line, and answers the status that is meant, or why the line wasn't written whole.
-fn print<K: Sink>(sink: &mut K, line: &[u8], meant: Status) -> Status
-    ensures prints { Prints line.now meant (K.shown sink.old) (K.shown sink.new) (code result) }
-    ensures faults { CountsFault ((result ≡ Status.SinkFault) × (meant ≢ Status.SinkFault))
-        (K.shown sink.old).faults (K.shown sink.new).faults }
-{
-    match write_all(sink, line) {
-        Ok(()) => meant,
-        Err(Outside::Failed) => Status::SinkFault,
-        Err(Outside::Memory) => Status::Memory,
+    match command {
+        Command::Session { workers, requests } => {
+            let end = session(
+                rt,
+                alloc,
+                &mut library,
+                keeper,
+                vault,
+                source,
+                sink,
+                workers,
+                requests,
+            );
+            Status::of_session(end.how)
+        }
+        Command::Serve {
+            connections,
+            workers,
+            requests,
+        } => serve(
+            rt,
+            alloc,
+            &mut library,
+            sink,
+            keeper,
+            vault,
+            door,
+            connections,
+            workers,
+            requests,
+        ),
     }
 }

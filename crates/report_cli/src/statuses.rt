@@ -11,7 +11,7 @@ pub enum Status {
     Ended,
     /// The words are no command.
     Usage,
-    /// The input ended with what no request begins, or was too long.
+    /// The input ended with what can't be framed.
     Unframeable,
     /// A read of the input failed.
     SourceFault,
@@ -23,6 +23,10 @@ pub enum Status {
     KeeperFault,
     /// A row of the tables breaks a rule.
     BadRow,
+    /// As many requests were answered as a session may, and a byte more was there.
+    Turns,
+    /// The door failed to let a connection in.
+    DoorFault,
 }
 
 impl Status {
@@ -39,6 +43,8 @@ impl Status {
             Status::Memory => 5,
             Status::KeeperFault => 6,
             Status::BadRow => 7,
+            Status::Turns => 8,
+            Status::DoorFault => 10,
         }
     }
 
@@ -49,6 +55,7 @@ impl Status {
         match how {
             How::Ended => Status::Ended,
             How::Unframeable => Status::Unframeable,
+            How::Turns => Status::Turns,
             How::SourceFault => Status::SourceFault,
             How::SinkFault => Status::SinkFault,
             How::Memory => Status::Memory,

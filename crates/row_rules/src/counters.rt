@@ -4,10 +4,8 @@ ghost use Rattle.library_model.specs.RowRules.{is_counter, is_placed, counters_r
 ghost use Rattle.library_model.specs.declared.bad_rows.RowTable.TheVariants as table;
 
 use keeper_store::Tables;
+use lib_base::NUMBERS_END;
 use library_model::{BadRow, RowRule, RowTable};
-
-/// Where counters end: no number from here on is given.
-const NUMBERS_END: u32 = 2_147_483_647;
 
 /// The row of the counters, where one of them is out of its range.
 pub(crate) fn first_bad(tables: &Tables) -> Option<BadRow>

@@ -3,13 +3,8 @@ ghost use Rattle.std.specs.Prelude.{◌≡◌, nat_le};
 ghost use Rattle.std.specs.List.{list_all};
 ghost use Rattle.keeper_store.specs.EnergyBytes.{spelled};
 ghost use Rattle.library_model.specs.RowRules.{are_energies_of};
-ghost use Rattle.sound_model.specs.Segments.{greatest_energy};
 
-/// The greatest energy of a segment: six channels at the clamp.
-const GREATEST_ENERGY: u128 = (1 << 60) * 4800 * 582;
-
-/// The frames of a segment.
-const SEGMENT_FRAMES: u64 = 4_800;
+use lib_base::{GREATEST_ENERGY, SEGMENT_FRAMES};
 
 /// Whether the bytes are energies, 11 bytes each and none too great, of as many segments as the
 /// frames make.
@@ -24,11 +19,11 @@ pub(crate) fn are_energies_of(frames: u64, bytes: &[u8]) -> bool
     if !are_energies(pieces) {
         return false;
     }
-    pieces.len() as u64 == frames / SEGMENT_FRAMES
+    pieces.len() as u64 == frames / SEGMENT_FRAMES as u64
 }
 
 fn are_energies(pieces: &[[u8; 11]]) -> bool
-    ensures { result ≡ list_all (λ piece. nat_le (spelled piece) greatest_energy) pieces.now }
+    ensures { result ≡ list_all (λ piece. nat_le (spelled piece) GREATEST_ENERGY) pieces.now }
 {
     pieces
         .iter()

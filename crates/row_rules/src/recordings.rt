@@ -9,16 +9,10 @@ use crate::counters::is_placed;
 use crate::lookups::{album_ids, album_is_there, segment_takes};
 use crate::names::is_name;
 use keeper_store::{RecordingRow, Tables};
-use lib_base::{Kind, MOST_CHANNELS, Memory};
+use lib_base::{GREATEST_PEAK, Kind, MOST_CHANNELS, MOST_SAMPLES, Memory};
 use library_model::{BadRow, RowRule, RowTable};
 use std::alloc::Global;
 use std::collections::BTreeSet;
-
-/// The most frames that a recording has.
-const MOST_FRAMES: u64 = 134_217_728;
-
-/// The greatest peak: the heaviest phase of the peak filter over samples at full scale.
-const GREATEST_PEAK: u64 = 16_571 << 23;
 
 /// What the tables have for a recording's row.
 #[derive(Clone, Copy, Debug)]
@@ -101,7 +95,7 @@ fn is_sound(row: &RecordingRow) -> bool
 {
     let channels = 1 <= row.channels && u16::from(row.channels) <= MOST_CHANNELS;
     let depth = is_depth(row.kind, row.depth);
-    let frames = row.summary.frames <= MOST_FRAMES;
+    let frames = row.summary.frames <= MOST_SAMPLES;
     let peak = row.summary.peak <= GREATEST_PEAK;
     channels && depth && frames && peak
 }

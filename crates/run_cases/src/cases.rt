@@ -1,20 +1,26 @@
 //! Cases, read from the lines of a block.
 
 use crate::files::{File, add_hex, find};
+use crate::requests::{Next, add_length, add_line, add_request, set_next};
 use anyhow::{Context, Result, bail};
 use keeper_store::{Rows, Tables};
 use std::alloc::Global;
 use std::mem;
 
-/// A run: its words, its input, and how its objects behave.
+/// A run: its words, its inputs, and how its objects behave.
 #[derive(Drop)]
-pub struct Case {
+pub struct Case<'a> {
     pub words: Vec<String>,
-    pub input: Vec<u8>,
+    /// The input of the source, and behind it those of the connections at the door.
+    pub inputs: Vec<Vec<u8>>,
+    /// What the lines before ask of the request that comes next.
+    pub next: Next<'a>,
     /// How many bytes the source hands out at most in a read.
     pub piece: usize,
     /// How many bytes the sink takes at most in a write.
     pub room: usize,
+    /// How many of the rows of a table, of the replies and of the keys are printed at most.
+    pub brief: usize,
     pub failing: Failing,
     pub tables: Tables,
 }
@@ -26,6 +32,7 @@ pub struct Failing {
     pub sink: Vec<u32>,
     pub keeper: Vec<u32>,
     pub vault: Vec<u32>,
+    pub door: Vec<u32>,
 }
 
 /// The lines of a case by its name.
@@ -35,15 +42,22 @@ pub struct Lines<'a> {
     pub lines: Vec<&'a str>,
 }
 
-/// The case that the lines give, over these tables and files, and the cases before it.
-pub fn read_case(
+/// What a case begins with: tables, and how many requests have come under a number of their own.
+#[derive(Drop)]
+pub struct Start {
+    pub tables: Tables,
+    pub numbered: u32,
+}
+
+/// The case that the lines give, over what it begins with, the files and the cases before it.
+pub fn read_case<'a>(
     alloc: Global,
-    tables: Tables,
-    lines: &[&str],
-    before: &[Lines<'_>],
+    start: Start,
+    lines: &[&'a str],
+    before: &[Lines<'a>],
     files: &[File],
-) -> Result<Case> {
-    let mut case = new_case(alloc, tables)?;
+) -> Result<Case<'a>> {
+    let mut case = new_case(alloc, start)?;
     for line in lines {
         match line.split_once(' ') {
             Some(("over", _)) => {}
@@ -55,7 +69,7 @@ pub fn read_case(
 }
 
 /// The lines of the case of a name.
-pub fn lines_of<'a>(cases: &'a [Lines<'a>], name: &str) -> Result<&'a [&'a str]> {
+pub fn lines_of<'a, 'b>(cases: &'b [Lines<'a>], name: &str) -> Result<&'b [&'a str]> {
     match cases.iter().find(|case| case.name == name) {
         Some(case) => Ok(case.lines.as_slice()),
         None => bail!("no case {name}"),
@@ -63,102 +77,86 @@ pub fn lines_of<'a>(cases: &'a [Lines<'a>], name: &str) -> Result<&'a [&'a str]>
 }
 
 /// Does what the lines of another case say.
-fn obey_all(alloc: Global, case: &mut Case, lines: &[&str], files: &[File]) -> Result<()> {
+fn obey_all<'a>(
+    alloc: Global,
+    case: &mut Case<'a>,
+    lines: &[&'a str],
+    files: &[File],
+) -> Result<()> {
     for line in lines {
         obey(alloc, case, line, files).context(format_args!("{line}"))?;
     }
     Ok(())
 }
 
-/// The session over an empty input and these tables, in which nothing fails.
-fn new_case(alloc: Global, tables: Tables) -> Result<Case> {
+/// The session over an empty input and no connection, in which nothing fails.
+fn new_case<'a>(alloc: Global, start: Start) -> Result<Case<'a>> {
+    let mut inputs = Vec::new(alloc);
+    inputs.push(Vec::new(alloc))?;
     Ok(Case {
         words: words_of(alloc, "session")?,
-        input: Vec::new(alloc),
+        inputs,
+        next: Next::plain(start.numbered),
         piece: usize::MAX,
         room: usize::MAX,
+        brief: usize::MAX,
         failing: Failing {
             source: Vec::new(alloc),
             sink: Vec::new(alloc),
             keeper: Vec::new(alloc),
             vault: Vec::new(alloc),
+            door: Vec::new(alloc),
         },
-        tables,
+        tables: start.tables,
     })
 }
 
 /// Does what one line says.
-fn obey(alloc: Global, case: &mut Case, line: &str, files: &[File]) -> Result<()> {
+fn obey<'a>(alloc: Global, case: &mut Case<'a>, line: &'a str, files: &[File]) -> Result<()> {
     let (word, rest) = line.split_once(' ').unwrap_or((line, ""));
     match word {
         "words" => case.words = words_of(alloc, rest)?,
         "fails" => set_failing(alloc, &mut case.failing, rest)?,
         "pieces" => case.piece = rest.parse::<usize>()?,
         "room" => case.room = rest.parse::<usize>()?,
-        "next-album" => case.tables.next_album = rest.parse::<u32>()?,
-        "album" => set_album(alloc, &mut case.tables, rest)?,
-        _ => add_input(alloc, &mut case.input, word, rest, files)?,
+        "brief" => case.brief = rest.parse::<usize>()?,
+        "connection" => case.inputs.push(Vec::new(alloc))?,
+        "token" | "named" | "into" | "times" | "closing" => set_next(&mut case.next, word, rest)?,
+        "next-album" | "next-recording" | "next-take" | "row-album" => {
+            set_tables(alloc, &mut case.tables, word, rest)?;
+        }
+        _ => add_input(alloc, case, word, rest, files)?,
     }
     Ok(())
 }
 
-/// Adds to the input what one line says.
-fn add_input(
+/// Adds to the input that comes last what one line says.
+fn add_input<'a>(
     alloc: Global,
-    input: &mut Vec<u8>,
+    case: &mut Case<'a>,
     word: &str,
-    rest: &str,
+    rest: &'a str,
     files: &[File],
 ) -> Result<()> {
+    let Some(input) = case.inputs.last_mut() else {
+        bail!("no input");
+    };
     match word {
         ">" => add_line(input, rest)?,
-        "length" => add_length(alloc, input, find(files, rest)?)?,
+        "length" => add_length(alloc, input, find(files, rest)?.bytes.len())?,
         "body" => input.extend_from_slice(find(files, rest)?.bytes.as_slice())?,
         "hex" => add_hex(input, rest)?,
         "fill" => input.resize(rest.parse::<usize>()?, b'-')?,
-        "import" => add_import(alloc, input, find(files, rest)?)?,
-        "ask" => {
-            add_line(
-                input,
-                format!(in alloc; "GET /recordings/{rest} HTTP/1.1")?.as_str(),
-            )?;
-            add_line(input, "Host: a")?;
-            add_line(input, "")?;
-        }
-        _ => bail!("no line of a case"),
+        _ => add_request(alloc, input, &mut case.next, word, rest, files)?,
     }
     Ok(())
 }
 
-/// Adds the import of a file.
-fn add_import(alloc: Global, input: &mut Vec<u8>, file: &File) -> Result<()> {
-    add_line(input, "POST /recordings HTTP/1.1")?;
-    add_line(input, "Host: a")?;
-    add_length(alloc, input, file)?;
-    add_line(input, "")?;
-    input.extend_from_slice(file.bytes.as_slice())?;
-    Ok(())
-}
-
-/// Adds the header line that tells the length of a file.
-fn add_length(alloc: Global, input: &mut Vec<u8>, file: &File) -> Result<()> {
-    let length = file.bytes.len();
-    add_line(
-        input,
-        format!(in alloc; "Content-Length: {length}")?.as_str(),
-    )
-}
-
-/// Adds a line of a head.
-fn add_line(input: &mut Vec<u8>, line: &str) -> Result<()> {
-    input.extend_from_slice(line.as_bytes())?;
-    input.extend_from_slice(b"\r\n".as_slice())?;
-    Ok(())
-}
-
+/// The words of a line. Two quotes stand for the empty one.
 fn words_of(alloc: Global, text: &str) -> Result<Vec<String>> {
     let mut words = Vec::new(alloc);
     for word in text.split_whitespace() {
+        let word = if word == "''" { "" } else { word };
         words.push(String::from_str(alloc, word)?)?;
     }
     Ok(words)
@@ -176,7 +174,19 @@ fn set_failing(alloc: Global, failing: &mut Failing, words: &str) -> Result<()> 
         "sink" => failing.sink = calls,
         "keeper" => failing.keeper = calls,
         "vault" => failing.vault = calls,
+        "door" => failing.door = calls,
         _ => bail!("no such object"),
+    }
+    Ok(())
+}
+
+/// Changes the tables as a line says.
+fn set_tables(alloc: Global, tables: &mut Tables, word: &str, rest: &str) -> Result<()> {
+    match word {
+        "next-album" => tables.next_album = rest.parse::<u32>()?,
+        "next-recording" => tables.next_recording = rest.parse::<u32>()?,
+        "next-take" => tables.next_take = rest.parse::<u32>()?,
+        _ => set_album(alloc, tables, rest)?,
     }
     Ok(())
 }

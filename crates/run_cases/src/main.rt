@@ -9,9 +9,10 @@ mod cases;
 mod files;
 mod pieces;
 mod reports;
+mod requests;
 mod runs;
 
-use crate::cases::{Lines, lines_of, read_case};
+use crate::cases::{Lines, Start, lines_of, read_case};
 use crate::files::{File, make_file};
 use crate::reports::report;
 use crate::runs::run_case;
@@ -78,30 +79,29 @@ impl<'a> Told<'a> {
         rt: &R,
         alloc: Global,
         name: &str,
-        lines: &[&str],
+        lines: &[&'a str],
     ) -> Result<String> {
-        let tables = self.tables_before(rt, alloc, lines)?;
+        let start = self.start(rt, alloc, lines)?;
         let (files, cases) = (self.files.as_slice(), self.cases.as_slice());
-        let case = read_case(alloc, tables, lines, cases, files)?;
-        report(alloc, name, &run_case(rt, alloc, case)?)
+        let case = read_case(alloc, start, lines, cases, files)?;
+        let brief = case.brief;
+        report(alloc, name, brief, &run_case(rt, alloc, case)?)
     }
 
-    /// The tables that a case begins with: those that the case leaves over which it runs, or empty
-    /// ones.
-    fn tables_before<R: Threads + Sync>(
-        &self,
-        rt: &R,
-        alloc: Global,
-        lines: &[&str],
-    ) -> Result<Tables> {
-        let empty = Tables::empty(alloc);
+    /// What a case begins with: what the case leaves over which it runs, or empty tables.
+    fn start<R: Threads + Sync>(&self, rt: &R, alloc: Global, lines: &[&'a str]) -> Result<Start> {
+        let empty = Start {
+            tables: Tables::empty(alloc),
+            numbered: 0,
+        };
         let Some(name) = lines.iter().find_map(|line| line.strip_prefix("over ")) else {
             return Ok(empty);
         };
         let (files, cases) = (self.files.as_slice(), self.cases.as_slice());
         let before = read_case(alloc, empty, lines_of(cases, name)?, cases, files)?;
+        let numbered = before.next.numbered;
         match run_case(rt, alloc, before)?.keeper.tables() {
-            Ok(tables) => Ok(tables),
+            Ok(tables) => Ok(Start { tables, numbered }),
             Err(Memory) => bail!("want of memory"),
         }
     }

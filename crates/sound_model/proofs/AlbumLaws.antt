@@ -9,10 +9,11 @@ use Rattle.std.proofs.lemmas.Int.{ints, int_max_is}
 use Rattle.std.proofs.lemmas.List.Elements.{All-nil, All-cons, All-weaker}
 use Rattle.lib_base.specs.declared.files.Measured.{Measured}
 use Rattle.lib_base.specs.declared.files.Summary.{Summary}
+use Rattle.lib_base.specs.declared.limits.TheConstants.{FULL_POWER}
 use Rattle.sound_model.specs.Albums.{IsAlbumSummary, SummarisesMeasured, album_blocks, album_windows, greater_level, greatest_level}
 use Rattle.sound_model.specs.Blocks.{blocks_of, windows_of}
 use Rattle.sound_model.specs.Levels.{IsLevel, hundredths}
-use Rattle.sound_model.specs.Loudness.{IfThere, IsBlockLevel, IsWindowLevel, above_zero, greatest, full_power}
+use Rattle.sound_model.specs.Loudness.{IfThere, IsBlockLevel, IsWindowLevel, above_zero, greatest}
 use Rattle.sound_model.proofs.LevelLaws.{level-rises}
 use Rattle.sound_model.proofs.SummaryLaws.{Summarises-unique, IfThere-unique, IsBlockLevel-unique, IsWindowLevel-unique}
 
@@ -62,17 +63,17 @@ hundredths-rises x y rises = halves (x +ℤ pos 1) (y +ℤ pos 1) (omega (arith,
 -- the loudness of a block, and of a window, doesn't fall where the energy rises
 pub IsBlockLevel-rises : (a b : ℕ) (v w : ℤ) → a ≤ b → IsBlockLevel a v → IsBlockLevel b w → v ≤ℤ w
 IsBlockLevel-rises a b v w more low high =
-    let scaled : 125 * a * (24 * full_power) ≤ 125 * b * (24 * full_power) = omega (arith, more) in
+    let scaled : 125 * a * (24 * FULL_POWER) ≤ 125 * b * (24 * FULL_POWER) = omega (arith, more) in
     rw (low.rounded, high.rounded)
     (hundredths-rises low.level high.level
-    (level-rises (125 * b) (24 * full_power) (125 * a) (24 * full_power) high.level low.level high.of_ratio low.of_ratio scaled))
+    (level-rises (125 * b) (24 * FULL_POWER) (125 * a) (24 * FULL_POWER) high.level low.level high.of_ratio low.of_ratio scaled))
 
 pub IsWindowLevel-rises : (a b : ℕ) (v w : ℤ) → a ≤ b → IsWindowLevel a v → IsWindowLevel b w → v ≤ℤ w
 IsWindowLevel-rises a b v w more low high =
-    let scaled : 25 * a * (36 * full_power) ≤ 25 * b * (36 * full_power) = omega (arith, more) in
+    let scaled : 25 * a * (36 * FULL_POWER) ≤ 25 * b * (36 * FULL_POWER) = omega (arith, more) in
     rw (low.rounded, high.rounded)
     (hundredths-rises low.level high.level
-    (level-rises (25 * b) (36 * full_power) (25 * a) (36 * full_power) high.level low.level high.of_ratio low.of_ratio scaled))
+    (level-rises (25 * b) (36 * FULL_POWER) (25 * a) (36 * FULL_POWER) high.level low.level high.of_ratio low.of_ratio scaled))
 
 above_zero-suc : (n : ℕ) → above_zero (suc n) ≡ Some (suc n)
 above_zero-suc n = grind (arith, nat_tests)

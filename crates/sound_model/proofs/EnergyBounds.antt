@@ -9,8 +9,9 @@ use Rattle.std.proofs.lemmas.List.{get_or-reverse, length-reverse, length-map, g
 use Rattle.std.proofs.lemmas.List.Elements.{All-map, All-nil, All-cons, All-get_or, All-from_get_or, All-take, All-drop}
 use Rattle.std.proofs.lemmas.List.Sums.{sum_by-le, sum_by-cons, sum_by-take-le}
 use Rattle.lib_base.specs.Sounds.{part}
+use Rattle.lib_base.specs.declared.limits.TheConstants.{GREATEST_ENERGY, SEGMENT_FRAMES}
 use Rattle.sound_model.specs.Weighted.{Section, held, leaving, weighted, outputs, shelf, high_pass, entering}
-use Rattle.sound_model.specs.Segments.{square, segment_energy, first_segments, energy_over, first_energies, energies, weights, greatest_energy}
+use Rattle.sound_model.specs.Segments.{square, segment_energy, first_segments, energy_over, first_energies, energies, weights}
 
 held_within : (limit : ℕ) (z : ℤ) → unsigned_abs (held limit z) ≤ limit
 held_within limit z = grind (arith, ints)
@@ -49,23 +50,23 @@ all_squares ws all =
     (λ i below. square_within (get_or ws i (pos 0)) (All-get_or (λ (w : ℤ). unsigned_abs w ≤ 2 ^ 30) ws i (pos 0) below all))
 
 -- the energy of one channel's segment
-pub segment_energy_within : (depth : ℕ) (samples : List ℤ) (j : ℕ) → segment_energy (weighted depth samples) j ≤ 4800 * 2 ^ 60
+pub segment_energy_within : (depth : ℕ) (samples : List ℤ) (j : ℕ) → segment_energy (weighted depth samples) j ≤ SEGMENT_FRAMES * 2 ^ 60
 segment_energy_within depth samples j =
     let values = weighted depth samples in
-    let piece = part values (4800 * j) 4800 in
-    let count = length-take 4800 (drop (4800 * j) values) in
-    let all = All-take (λ (w : ℤ). unsigned_abs w ≤ 2 ^ 30) 4800 (drop (4800 * j) values)
-    (All-drop (λ (w : ℤ). unsigned_abs w ≤ 2 ^ 30) (4800 * j) values (weighted_within depth samples)) in
+    let piece = part values (SEGMENT_FRAMES * j) SEGMENT_FRAMES in
+    let count = length-take SEGMENT_FRAMES (drop (SEGMENT_FRAMES * j) values) in
+    let all = All-take (λ (w : ℤ). unsigned_abs w ≤ 2 ^ 30) SEGMENT_FRAMES (drop (SEGMENT_FRAMES * j) values)
+    (All-drop (λ (w : ℤ). unsigned_abs w ≤ 2 ^ 30) (SEGMENT_FRAMES * j) values (weighted_within depth samples)) in
     let bound = sum_by-le square (2 ^ 60) piece (all_squares piece all) in
     omega (arith, count, bound)
 
 -- the energy over channels is within their weights' sum times that of one channel
-pub energy_over_within : (depth : ℕ) (ws : List ℕ) (lists : List (List ℤ)) (j : ℕ) → energy_over depth ws lists j ≤ sum ws * (4800 * 2 ^ 60)
+pub energy_over_within : (depth : ℕ) (ws : List ℕ) (lists : List (List ℤ)) (j : ℕ) → energy_over depth ws lists j ≤ sum ws * (SEGMENT_FRAMES * 2 ^ 60)
 energy_over_within depth [] lists j = omega arith
 energy_over_within depth (w ∷ ws) [] j = omega arith
 energy_over_within depth (w ∷ ws) (samples ∷ lists) j =
     let rest = energy_over_within depth ws lists j in
-    let one = mul-le w (segment_energy (weighted depth samples) j) w (4800 * 2 ^ 60) (omega arith) (segment_energy_within depth samples j) in
+    let one = mul-le w (segment_energy (weighted depth samples) j) w (SEGMENT_FRAMES * 2 ^ 60) (omega arith) (segment_energy_within depth samples j) in
     let total = sum_by-cons (λ (n : ℕ). n) w ws in
     omega (arith, rest, one, total)
 
@@ -158,20 +159,20 @@ few_weights k c some few =
     let part = sum_by-take-le (λ (w : ℕ). w) (weights k) c in let all = all_weights_few k some few in omega (arith, part, all)
 
 -- a sound has an energy for each whole segment
-pub length-energies : (depth frames : ℕ) (lists : List (List ℤ)) → length (energies depth frames lists) ≡ frames / 4800
-length-energies depth frames lists = length-first_energies depth (frames / 4800) lists
+pub length-energies : (depth frames : ℕ) (lists : List (List ℤ)) → length (energies depth frames lists) ≡ frames / SEGMENT_FRAMES
+length-energies depth frames lists = length-first_energies depth (frames / SEGMENT_FRAMES) lists
 
 -- no energy of a sound is above the greatest
 pub energies_within : (depth frames : ℕ) (lists : List (List ℤ)) → 1 ≤ length lists → length lists ≤ 6
-    → All (λ e. e ≤ greatest_energy) (energies depth frames lists)
+    → All (λ e. e ≤ GREATEST_ENERGY) (energies depth frames lists)
 energies_within depth frames lists some few =
-    let n = frames / 4800 in
-    All-from_get_or (λ (e : ℕ). e ≤ greatest_energy) (first_energies depth n lists) 0
+    let n = frames / SEGMENT_FRAMES in
+    All-from_get_or (λ (e : ℕ). e ≤ GREATEST_ENERGY) (first_energies depth n lists) 0
     (λ j below.
     let whole = length-first_energies depth n lists in
     let ws = weights (length lists) in
     let value = first_energies-get_or depth n j lists (omega (arith, below, whole)) in
     let bound = energy_over_within depth ws lists j in
     let weighed = all_weights_few (length lists) some few in
-    let least = mul-le (sum ws) (4800 * 2 ^ 60) 582 (4800 * 2 ^ 60) weighed (omega arith) in
+    let least = mul-le (sum ws) (SEGMENT_FRAMES * 2 ^ 60) 582 (SEGMENT_FRAMES * 2 ^ 60) weighed (omega arith) in
     omega (arith, value, bound, least))

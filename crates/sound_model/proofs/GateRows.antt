@@ -1,8 +1,9 @@
 -- Segments, blocks and loudness worked by hand.
 use Rattle.std.proofs.Common.{◌≡◌, ◌*◌, ◌^◌, ℕ, ℤ, negsuc, List, [], ◌∷◌, ◌++◌, length, Some, None, refl, arith}
+use Rattle.lib_base.specs.declared.limits.TheConstants.{FULL_POWER}
 use Rattle.sound_model.specs.Blocks.{blocks_of, windows_of}
 use Rattle.sound_model.specs.Levels.{entry, hundredths}
-use Rattle.sound_model.specs.Loudness.{IsBlockLevel, IsLoudness, full_power, is_audible, is_near}
+use Rattle.sound_model.specs.Loudness.{IsBlockLevel, IsLoudness, is_audible, is_near}
 use Rattle.sound_model.specs.Segments.{energies, energy_over, weights}
 use Rattle.sound_model.specs.Summaries.{gain_of}
 use Rattle.sound_model.proofs.LevelLaws.{level_from_root}
@@ -39,8 +40,8 @@ unfolding entry hundredths
 of_one_block = record {
   level = negsuc 138;
   of_ratio =
-      level_from_root (125 * (1920000 * 2 ^ 54)) (24 * full_power) 0 1861 (omega arith) (omega arith) (omega arith) (omega arith)
-      (later_places_pass 1862 (125 * (1920000 * 2 ^ 54) * 10 * 10 ^ 9) (24 * full_power) (omega arith));
+      level_from_root (125 * (1920000 * 2 ^ 54)) (24 * FULL_POWER) 0 1861 (omega arith) (omega arith) (omega arith) (omega arith)
+      (later_places_pass 1862 (125 * (1920000 * 2 ^ 54) * 10 * 10 ^ 9) (24 * FULL_POWER) (omega arith));
   rounded = refl;
 }
 
@@ -72,8 +73,8 @@ unfolding entry hundredths
 of_second_block = record {
   level = negsuc 1580;
   of_ratio =
-      level_from_root (125 * (364800 * 2 ^ 54)) (24 * full_power) 0 419 (omega arith) (omega arith) (omega arith) (omega arith)
-      (later_places_pass 420 (125 * (364800 * 2 ^ 54) * 10 * 10 ^ 9) (24 * full_power) (omega arith));
+      level_from_root (125 * (364800 * 2 ^ 54)) (24 * FULL_POWER) 0 419 (omega arith) (omega arith) (omega arith) (omega arith)
+      (later_places_pass 420 (125 * (364800 * 2 ^ 54) * 10 * 10 ^ 9) (24 * FULL_POWER) (omega arith));
   rounded = refl;
 }
 
@@ -87,8 +88,8 @@ unfolding entry hundredths
 of_first_block = record {
   level = negsuc 4138;
   of_ratio =
-      level_from_root (125 * (19200 * 2 ^ 54)) (24 * full_power) 2 1861 (omega arith) (omega arith) (omega arith) (omega arith)
-      (later_places_pass 1862 (125 * (19200 * 2 ^ 54) * 10 ^ 3 * 10 ^ 9) (24 * full_power) (omega arith));
+      level_from_root (125 * (19200 * 2 ^ 54)) (24 * FULL_POWER) 2 1861 (omega arith) (omega arith) (omega arith) (omega arith)
+      (later_places_pass 1862 (125 * (19200 * 2 ^ 54) * 10 ^ 3 * 10 ^ 9) (24 * FULL_POWER) (omega arith));
   rounded = refl;
 }
 

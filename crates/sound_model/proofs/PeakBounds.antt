@@ -1,4 +1,4 @@
--- How great scaled samples and peaks are.
+-- How great peaks are.
 use Rattle.std.proofs.Common.{◌≡◌, ◌≤◌, ◌+◌, ◌-◌, ◌*◌, ◌^◌, ℕ, zero, suc, Bool, true, false, nat_le, List, [], ◌∷◌, length, get_or, max, sym, subst, ap, ◌∙◌, inl, inr, arith, if◌then◌else◌}
 use Rattle.std.specs.Prelude.{ℤ, pos, ◌+ℤ◌, ◌*ℤ◌, unsigned_abs, All}
 use Rattle.std.proofs.lemmas.Bool.{cases_lt}
@@ -6,26 +6,10 @@ use Rattle.std.proofs.lemmas.Int.{ints, unsigned_abs-mul}
 use Rattle.std.proofs.lemmas.Nat.{mul-le, pow-add, pow_pos}
 use Rattle.std.proofs.lemmas.List.{get_or_past}
 use Rattle.std.proofs.lemmas.List.Elements.{All-get_or, All-head, All-tail}
-use Rattle.lib_base.specs.Sounds.{IsSample}
-use Rattle.sound_model.specs.Peaks.{scaled, sample_before, tapped, phase_size, peak_at, peak_from, peak_of, first_phase, second_phase, third_phase, fourth_phase}
-
--- the greatest sample at its scale
-scale_of_size : (depth : ℕ) → 4 ≤ depth → depth ≤ 24 → 2 ^ (depth - 1) * 2 ^ (24 - depth) ≡ 2 ^ 23
-scale_of_size depth low high =
-    let sum : (depth - 1) + (24 - depth) ≡ 23 = omega arith in
-    sym (pow-add 2 (depth - 1) (24 - depth)) ∙ ap (λ (n : ℕ). 2 ^ n) sum
-
-size_of_sample : (depth : ℕ) (sample : ℤ) → IsSample depth sample → unsigned_abs sample ≤ 2 ^ (depth - 1)
-size_of_sample depth sample within = omega (arith, ints)
-
-pub scaled_small : (depth : ℕ) (sample : ℤ) → 4 ≤ depth → depth ≤ 24 → IsSample depth sample → unsigned_abs (scaled depth sample) ≤ 2 ^ 23
-unfolding scaled
-scaled_small depth sample low high within =
-    let size = size_of_sample depth sample within in
-    let product = mul-le (unsigned_abs sample) (2 ^ (24 - depth)) (2 ^ (depth - 1)) (2 ^ (24 - depth)) size (omega arith) in
-    let greatest = scale_of_size depth low high in
-    let apart = unsigned_abs-mul sample (pos (2 ^ (24 - depth))) in
-    omega arith
+use Rattle.lib_base.specs.Sounds.{IsSample, scaled}
+use Rattle.lib_base.proofs.Scales.{scaled_small}
+use Rattle.lib_base.specs.declared.limits.TheConstants.{PEAK_REACH}
+use Rattle.sound_model.specs.Peaks.{sample_before, tapped, phase_size, peak_at, peak_from, peak_of, first_phase, second_phase, third_phase, fourth_phase}
 
 silence_is_sample : (depth : ℕ) → IsSample depth (pos 0)
 silence_is_sample depth = let some = pow_pos (depth - 1) in (omega (arith, ints, some), omega (arith, ints, some))
@@ -103,5 +87,5 @@ pub peak_of_within : (depth frames : ℕ) (lists : List (List ℤ)) → 4 ≤ de
 peak_of_within depth frames [] low high all = omega arith
 peak_of_within depth frames (samples ∷ lists) low high all =
     let OfChannel : List ℤ → Type 0 = λ xs. All (IsSample depth) xs in
-    let here = peak_from_within depth samples 0 (frames + 11 - 0) low high (All-head OfChannel samples lists all) in
+    let here = peak_from_within depth samples 0 (frames + PEAK_REACH - 0) low high (All-head OfChannel samples lists all) in
     let rest = peak_of_within depth frames lists low high (All-tail OfChannel samples lists all) in omega (arith, here, rest)

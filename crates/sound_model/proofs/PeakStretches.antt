@@ -2,6 +2,7 @@
 use Rattle.std.proofs.Common.{◌≡◌, ◌≤◌, ◌<◌, ◌+◌, ◌-◌, ◌∙◌, ℕ, zero, suc, List, [], ◌∷◌, ◌++◌, take, length, get_or, max, ap, arith}
 use Rattle.std.specs.Prelude.{ℤ}
 use Rattle.std.proofs.lemmas.List.{take_more}
+use Rattle.lib_base.specs.declared.limits.TheConstants.{PEAK_REACH}
 use Rattle.sound_model.specs.Peaks.{peak_at, peak_from, peak_over, peak_of}
 
 joined_max : (a b c : ℕ) → max (max a b) c ≡ max a (max b c)
@@ -34,13 +35,13 @@ peak_over-join depth samples from middle to before after =
     ∙ ap (λ (k : ℕ). max (peak_from depth samples from (middle - from)) (peak_from depth samples k (to - middle))) meets
 
 peak_of-push : (depth frames : ℕ) (lists : List (List ℤ)) (samples : List ℤ)
-    → peak_of depth frames (lists ++ samples ∷ []) ≡ max (peak_of depth frames lists) (peak_over depth samples 0 (frames + 11))
+    → peak_of depth frames (lists ++ samples ∷ []) ≡ max (peak_of depth frames lists) (peak_over depth samples 0 (frames + PEAK_REACH))
 peak_of-push depth frames [] samples = omega arith
 peak_of-push depth frames (first ∷ lists) samples = let rest = peak_of-push depth frames lists samples in omega (arith, rest)
 
 -- one channel more raises the peak to its own, where that is greater
 pub peak_of-step : (depth frames : ℕ) (lists : List (List ℤ)) (c most own next : ℕ) → c < length lists
-    → most ≡ peak_of depth frames (take c lists) → own ≡ peak_over depth (get_or lists c []) 0 (frames + 11) → next ≡ max most own
+    → most ≡ peak_of depth frames (take c lists) → own ≡ peak_over depth (get_or lists c []) 0 (frames + PEAK_REACH) → next ≡ max most own
     → next ≡ peak_of depth frames (take (c + 1) lists)
 peak_of-step depth frames lists c most own next below was value is =
     rw (take_more lists c [] below, peak_of-push depth frames (take c lists) (get_or lists c []), ← was, ← value) is

@@ -2,8 +2,9 @@
 use Rattle.std.proofs.Common.{◌≡◌, ◌*◌, ◌^◌, ℕ, List, Option, Some, None, refl, ap, ◌∙◌, sym}
 use Rattle.std.specs.Prelude.{ℤ, option_map}
 use Rattle.lib_base.specs.declared.files.Summary.{Summary}
+use Rattle.lib_base.specs.declared.limits.TheConstants.{FULL_POWER}
 use Rattle.sound_model.specs.Levels.{hundredths}
-use Rattle.sound_model.specs.Loudness.{IfThere, IsBlockLevel, IsWindowLevel, IsLoudness, full_power, mean, gated, above_zero, greatest}
+use Rattle.sound_model.specs.Loudness.{IfThere, IsBlockLevel, IsWindowLevel, IsLoudness, mean, gated, above_zero, greatest}
 use Rattle.sound_model.specs.Summaries.{Summarises, IsPeakLevel, gain_of}
 use Rattle.sound_model.proofs.LevelLaws.{level-unique}
 use Rattle.sound_model.proofs.RangeLaws.{IsRange-unique}
@@ -19,11 +20,11 @@ IfThere-unique R unique (Some a) (Some v) (Some w) h k = ap Some (unique a v w h
 
 pub IsBlockLevel-unique : (energy : ℕ) (v w : ℤ) → IsBlockLevel energy v → IsBlockLevel energy w → v ≡ w
 IsBlockLevel-unique energy v w x y =
-    x.rounded ∙ ap hundredths (level-unique (125 * energy) (24 * full_power) x.level y.level x.of_ratio y.of_ratio) ∙ sym y.rounded
+    x.rounded ∙ ap hundredths (level-unique (125 * energy) (24 * FULL_POWER) x.level y.level x.of_ratio y.of_ratio) ∙ sym y.rounded
 
 pub IsWindowLevel-unique : (energy : ℕ) (v w : ℤ) → IsWindowLevel energy v → IsWindowLevel energy w → v ≡ w
 IsWindowLevel-unique energy v w x y =
-    x.rounded ∙ ap hundredths (level-unique (25 * energy) (36 * full_power) x.level y.level x.of_ratio y.of_ratio) ∙ sym y.rounded
+    x.rounded ∙ ap hundredths (level-unique (25 * energy) (36 * FULL_POWER) x.level y.level x.of_ratio y.of_ratio) ∙ sym y.rounded
 
 -- blocks have one loudness
 pub IsLoudness-unique : (blocks : List ℕ) (x y : Option ℤ) → IsLoudness blocks x → IsLoudness blocks y → x ≡ y

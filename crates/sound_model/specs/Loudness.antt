@@ -1,11 +1,8 @@
 -- Gated loudness, in hundredths of LUFS (BS.1770-4 Annex 1; the offset of -0.691 dB in fixed point, the strict gates and the mean that
 -- is rounded down are the library's own).
 use Rattle.std.specs.Prelude.{◌≡◌, ◌*◌, ◌/◌, ◌^◌, ◌==◌, ℕ, ℤ, Bool, List, [], ◌∷◌, length, sum, filter, max, nat_lt, Option, None, Some, if◌then◌else◌, ⊤}
+use Rattle.lib_base.specs.declared.limits.TheConstants.{FULL_POWER}
 use Rattle.sound_model.specs.Levels.{IsLevel, hundredths}
-
--- 10^7 times the power that stands for 0 LUFS: the square of full scale, 2^54, times 10^0.0691, taken as 1.1724653
-abbrev pub full_power : ℕ
-full_power = 2 ^ 54 * 11724653
 
 -- both absent, or both there and related
 abbrev pub IfThere : {A B : Type 0} → (A → B → Type 0) → Option A → Option B → Type 0
@@ -18,24 +15,24 @@ IfThere R (Some x) (Some y) = R x y
 -- 10^7 / 1,920,000 is 125/24.
 pub record IsBlockLevel (energy : ℕ) (loudness : ℤ) : Type 0 where
   pub level : ℤ
-  pub of_ratio : IsLevel (125 * energy) (24 * full_power) level
+  pub of_ratio : IsLevel (125 * energy) (24 * FULL_POWER) level
   pub rounded : loudness ≡ hundredths level
 
 -- The loudness of a window's energy, which is 14,400,000 times its mean power (144,000 frames): 10^7 / 14,400,000 is 25/36.
 pub record IsWindowLevel (energy : ℕ) (loudness : ℤ) : Type 0 where
   pub level : ℤ
-  pub of_ratio : IsLevel (25 * energy) (36 * full_power) level
+  pub of_ratio : IsLevel (25 * energy) (36 * FULL_POWER) level
   pub rounded : loudness ≡ hundredths level
 
--- a block is above -70 LUFS, 10^-7 of the power for 0 LUFS
+-- a block is above the absolute threshold, -70 LUFS: 10^-7 of the power for 0 LUFS
 unfoldable pub is_audible : ℕ → Bool
-is_audible energy = nat_lt (24 * full_power) (125 * 10 ^ 7 * energy)
+is_audible energy = nat_lt (24 * FULL_POWER) (125 * 10 ^ 7 * energy)
 
--- a block is above the mean of these, less 10 LU
+-- a block is above the relative threshold, the mean of these less 10 LU
 unfoldable pub is_near : List ℕ → ℕ → Bool
 is_near blocks energy = nat_lt (sum blocks) (10 * length blocks * energy)
 
--- the blocks that pass both gates: of those above -70 LUFS, those above their mean less 10 LU
+-- the blocks that pass both gates: of those above the absolute threshold, those above the relative one, their mean less 10 LU
 abbrev pub gated : List ℕ → List ℕ
 gated blocks = let audible = filter is_audible blocks in filter (is_near audible) audible
 

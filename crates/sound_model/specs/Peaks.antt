@@ -1,6 +1,8 @@
 -- The peak, in units of 2^-36 of full scale (BS.1770-4 Annex 2; the filter in whole 8192ths is a profile of it, and its run of 11 places
 -- past the end and the size of the sample itself are the library's own).
 use Rattle.std.specs.Prelude.{◌+◌, ◌-◌, ◌*◌, ◌^◌, ℕ, zero, suc, ℤ, pos, neg_ℤ, ◌+ℤ◌, ◌*ℤ◌, List, [], ◌∷◌, reverse, slice_index_or, max, unsigned_abs, nat_le, if◌then◌else◌}
+unfoldable pub use Rattle.lib_base.specs.Sounds.{scaled}
+use Rattle.lib_base.specs.declared.limits.TheConstants.{PEAK_REACH}
 
 -- the taps of the first phase, in 8192ths
 abbrev pub first_phase : List ℤ
@@ -19,10 +21,6 @@ third_phase = reverse second_phase
 -- the fourth phase is the first one reversed
 abbrev pub fourth_phase : List ℤ
 fourth_phase = reverse first_phase
-
--- a sample scaled to 24 bits
-unfoldable pub scaled : ℕ → ℤ → ℤ
-scaled depth sample = sample *ℤ pos (2 ^ (24 - depth))
 
 -- the scaled sample so many places before a place, 0 outside the recording
 abbrev pub sample_before : ℕ → List ℤ → ℕ → ℕ → ℤ
@@ -55,7 +53,7 @@ peak_from depth samples from (suc count) = max (peak_from depth samples from cou
 abbrev pub peak_over : ℕ → List ℤ → ℕ → ℕ → ℕ
 peak_over depth samples from to = peak_from depth samples from (to - from)
 
--- the peak over channels of so many frames each: the filter runs 11 places past their end
+-- the peak over channels of so many frames each, and the places past their end that the filter reaches
 abbrev pub peak_of : ℕ → ℕ → List (List ℤ) → ℕ
 peak_of depth frames [] = 0
-peak_of depth frames (samples ∷ lists) = max (peak_over depth samples 0 (frames + 11)) (peak_of depth frames lists)
+peak_of depth frames (samples ∷ lists) = max (peak_over depth samples 0 (frames + PEAK_REACH)) (peak_of depth frames lists)

@@ -1,17 +1,17 @@
 -- Loudness range, in hundredths of LU (EBU Tech 3342; the gates by `>=` and the places are the library's own).
 use Rattle.std.specs.Prelude.{◌≡◌, ◌+◌, ◌-◌, ◌*◌, ◌/◌, ◌<◌, ◌≤◌, ◌^◌, ℕ, ℤ, Bool, List, [], ◌∷◌, length, sum, filter, count_by, Contains, nat_lt, nat_le, Option, None, Some, ⊤}
+use Rattle.lib_base.specs.declared.limits.TheConstants.{FULL_POWER}
 use Rattle.sound_model.specs.Levels.{IsLevel, hundredths}
-use Rattle.sound_model.specs.Loudness.{full_power}
 
--- a window is at -70 LUFS or above: 125/180 is 25/36
+-- a window is at the absolute threshold, -70 LUFS, or above: 125/180 is 25/36
 unfoldable pub is_window_audible : ℕ → Bool
-is_window_audible energy = nat_le (180 * full_power) (125 * 10 ^ 7 * energy)
+is_window_audible energy = nat_le (180 * FULL_POWER) (125 * 10 ^ 7 * energy)
 
--- a window is at the mean of these, less 20 LU, or above
+-- a window is at the relative threshold, the mean of these less 20 LU, or above
 unfoldable pub is_window_near : List ℕ → ℕ → Bool
 is_window_near windows energy = nat_le (sum windows) (100 * length windows * energy)
 
--- the windows that pass both gates: of those from -70 LUFS on, those from their mean less 20 LU on
+-- the windows that pass both gates: of those from the absolute threshold on, those from the relative one on, their mean less 20 LU
 abbrev pub gated_windows : List ℕ → List ℕ
 gated_windows windows = let audible = filter is_window_audible windows in filter (is_window_near audible) audible
 

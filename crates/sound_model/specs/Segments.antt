@@ -1,6 +1,8 @@
 -- The energies of a sound's segments of 100 ms, 4,800 frames (BS.1770-4 Annex 1).
 use Rattle.std.specs.Prelude.{◌+◌, ◌*◌, ◌/◌, ◌^◌, ◌==◌, ℕ, zero, suc, ℤ, List, [], ◌∷◌, ◌++◌, length, sum_by, unsigned_abs, if◌then◌else◌}
 use Rattle.lib_base.specs.Sounds.{part}
+use Rattle.lib_base.specs.declared.limits.TheConstants.{SEGMENT_FRAMES}
+pub use Rattle.lib_base.specs.declared.limits.TheConstants.{GREATEST_ENERGY as greatest_energy}
 use Rattle.sound_model.specs.Weighted.{weighted}
 
 -- the square of a weighted value
@@ -9,7 +11,7 @@ square w = unsigned_abs w * unsigned_abs w
 
 -- the sum of the squares in a segment, counted from 0
 abbrev pub segment_energy : List ℤ → ℕ → ℕ
-segment_energy values j = sum_by square (part values (4800 * j) 4800)
+segment_energy values j = sum_by square (part values (SEGMENT_FRAMES * j) SEGMENT_FRAMES)
 
 -- the energies of the first so many segments
 abbrev pub first_segments : ℕ → List ℤ → List ℕ
@@ -18,7 +20,7 @@ first_segments (suc count) values = first_segments count values ++ segment_energ
 
 -- the energies of all whole segments of one channel
 abbrev pub segments_of : List ℤ → List ℕ
-segments_of values = first_segments (length values / 4800) values
+segments_of values = first_segments (length values / SEGMENT_FRAMES) values
 
 -- the weights of the channels, in hundredths: 1.41 for those at the back, none for low frequencies (BS.1770-4 Annex 1 table 3). The
 -- channels stand as left, right, center, low frequencies, back left, back right, less those that are not there (RFC 9639 section 9.1.3).
@@ -47,8 +49,4 @@ first_energies depth (suc count) lists =
 
 -- the energies of all whole segments of a sound with so many frames
 abbrev pub energies : ℕ → ℕ → List (List ℤ) → List ℕ
-energies depth frames lists = first_energies depth (frames / 4800) lists
-
--- the greatest energy that a segment may have: six channels at the clamp
-abbrev pub greatest_energy : ℕ
-greatest_energy = 2 ^ 60 * 4800 * 582
+energies depth frames lists = first_energies depth (frames / SEGMENT_FRAMES) lists

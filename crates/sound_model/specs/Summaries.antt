@@ -2,11 +2,13 @@
 use Rattle.std.specs.Prelude.{◌≡◌, ◌≤◌, ◌*◌, ◌/◌, ◌^◌, ℕ, ℤ, neg_ℤ, pos, ◌-ℤ◌, List, length, All, option_map}
 use Rattle.lib_base.specs.declared.files.Measured.{Measured}
 use Rattle.lib_base.specs.declared.files.Summary.{Summary}
+use Rattle.lib_base.specs.declared.limits.TheConstants.{SEGMENT_FRAMES, MOST_SAMPLES, GREATEST_ENERGY, GREATEST_PEAK}
+pub use Rattle.lib_base.specs.declared.limits.TheConstants.{MOST_SAMPLES as most_frames, GREATEST_PEAK as greatest_peak}
 use Rattle.sound_model.specs.Levels.{IsLevel, hundredths}
 use Rattle.sound_model.specs.Loudness.{IfThere, IsBlockLevel, IsWindowLevel, IsLoudness, above_zero, greatest}
 use Rattle.sound_model.specs.Peaks.{peak_of}
 use Rattle.sound_model.specs.Ranges.{IsRange}
-use Rattle.sound_model.specs.Segments.{energies, greatest_energy}
+use Rattle.sound_model.specs.Segments.{energies}
 
 -- what is measured of a sound: the weighted energies of its segments, and its peak
 abbrev pub measured : ℕ → ℕ → List (List ℤ) → Measured
@@ -18,20 +20,12 @@ measured depth frames lists = record {
   peak = peak_of depth frames lists;
 }
 
--- the most frames that a file within the body limit can hold: one channel of 16 bits in 2^28 bytes
-abbrev pub most_frames : ℕ
-most_frames = 134217728
-
--- the greatest peak: the heaviest phase over samples at full scale, which have its signs
-abbrev pub greatest_peak : ℕ
-greatest_peak = 16571 * 2 ^ 23
-
 -- What is measured is within the bounds: of frames, of an energy for each whole segment, and of the peak.
 pub record IsWithinBounds (m : Measured) : Type 0 where
-  pub frames : m.frames ≤ most_frames
-  pub count : length m.energies ≡ m.frames / 4800
-  pub energies : All (λ e. e ≤ greatest_energy) m.energies
-  pub peak : m.peak ≤ greatest_peak
+  pub frames : m.frames ≤ MOST_SAMPLES
+  pub count : length m.energies ≡ m.frames / SEGMENT_FRAMES
+  pub energies : All (λ e. e ≤ GREATEST_ENERGY) m.energies
+  pub peak : m.peak ≤ GREATEST_PEAK
 
 -- the true peak level of a peak, in hundredths of dBTP
 pub record IsPeakLevel (peak : ℕ) (true_peak : ℤ) : Type 0 where

@@ -2,6 +2,7 @@
 -- The coefficients are those of the standard; the fixed point and its clamps are the library's own.
 use Rattle.std.specs.Prelude.{◌-◌, ◌*◌, ◌^◌, ℕ, ℤ, pos, neg_ℤ, ◌+ℤ◌, ◌-ℤ◌, ◌*ℤ◌, List, [], ◌∷◌, map, reverse, slice_index_or}
 use Rattle.std.specs.Int.{int_min, int_max, int_div_euclid}
+use Rattle.lib_base.specs.Sounds.{scaled}
 
 -- the coefficients of a section, in units of 10^-14
 pub record Section : Type 0 where
@@ -11,7 +12,7 @@ pub record Section : Type 0 where
   pub a1 : ℤ
   pub a2 : ℤ
 
--- the first section, a high shelf (BS.1770-4 table 1)
+-- the first section, the pre-filter: a high shelf (BS.1770-4 table 1)
 abbrev pub shelf : Section
 shelf = record {
   b0 = pos 153512485958697;
@@ -21,7 +22,7 @@ shelf = record {
   a2 = pos 73248077421585;
 }
 
--- the second section, a high pass (BS.1770-4 table 2)
+-- the second section, the RLB filter: a high pass (BS.1770-4 table 2)
 abbrev pub high_pass : Section
 high_pass = record {
   b0 = pos 100000000000000;
@@ -55,7 +56,7 @@ outputs s (x ∷ xs) = with_next s x xs (outputs s xs)
 
 -- a sample as it enters, in units of 2^-39 of full scale
 unfoldable pub entering : ℕ → ℤ → ℤ
-entering depth sample = sample *ℤ pos (2 ^ (24 - depth) * 2 ^ 16)
+entering depth sample = scaled depth sample *ℤ pos (2 ^ 16)
 
 -- an output as it leaves, in units of 2^-27 of full scale
 unfoldable pub leaving : ℤ → ℤ

@@ -4,11 +4,10 @@ ghost use Rattle.file_model.specs.Files.{comments_in};
 ghost use Rattle.file_model.specs.declared.flac_fields.TheConstants.{BLOCKS_AT};
 ghost use Rattle.flac_stream.specs.declared.blocks.Block.{Block};
 ghost use Rattle.flac_stream.specs.Shape.{IsReadOf};
-ghost use Rattle.lib_base.specs.Sounds.{part};
 ghost use Rattle.tag_writer.specs.Answers.{IsFlacRead, IsFlacRefusalOf, IsCommentsSpan, AreComments, IsRefusalAt};
 
 use flac_stream::FlacFile;
-use lib_base::{Broken, Refused, Span};
+use lib_base::{Broken, Refused, Span, content_of};
 use std::alloc::Global;
 
 /// Reads a FLAC file, and tries its comments.
@@ -76,15 +75,4 @@ fn check_content(alloc: Global, content: &[u8], start: usize) -> Result<(), Refu
         })),
         Err(Refused::Memory) => Err(Refused::Memory),
     }
-}
-
-/// The bytes that lie in a span.
-fn content_of(bytes: &[u8], span: Span) -> &[u8]
-    requires ordered { span.start ≤ span.end }
-    requires inside { span.end ≤ length bytes.now }
-    ensures content { result.now ≡ part bytes.now span.start (span.end - span.start) }
-    ensures short { span.start + length result.now < 2 ^ 63 }
-{
-    let rest = bytes.split_at(span.start).1;
-    rest.split_at(span.end - span.start).0
 }

@@ -3,9 +3,6 @@ ghost use Rattle.std.specs.Prelude.{◌≡◌, ◌≤◌, ◌<◌, ◌+◌, ◌-
 ghost use Rattle.std.specs.List.{list_all};
 ghost use Rattle.true_peak.specs.Windows.{dot, size_after};
 
-/// How many samples before a place reach it.
-pub const REACH: usize = 11;
-
 /// The taps of the first two phases, in 8192ths; those of the other two are the same backwards.
 const FIRST_PHASE: [i64; 12] = [
     14, 90, -161, 272, -487, 1125, 7964, -838, 390, -218, 122, -68,

@@ -5,9 +5,9 @@ ghost use Rattle.sound_model.specs.Peaks.{peak_over};
 ghost use Rattle.true_peak.specs.Heard.{Heard};
 ghost use Rattle.true_peak.specs.Windows.{history_at};
 
-use crate::history::{History, REACH};
+use crate::history::History;
 use crate::runs::Run;
-use lib_base::{PIECE, Scratch, Sound};
+use lib_base::{PEAK_REACH, PIECE, Scratch, Sound};
 
 /// The greatest size at the places from `from` to before `to`, in units of 2^-36 of full scale.
 ///
@@ -22,7 +22,7 @@ pub fn peak_of_range<S: Sound>(
 ) -> u64
     requires channel { channel < length (S.lists sound.now) }
     requires order { from ≤ to }
-    requires inside { to ≤ S.frames sound.now + 11 }
+    requires inside { to ≤ S.frames sound.now + PEAK_REACH }
     requires room { S.scratch_size sound.now ≤ length scratch.old.cells }
     ensures peak { result
         ≡ peak_over (S.depth sound.now) (samples_of (S.lists sound.now) channel) from to }
@@ -46,15 +46,15 @@ fn length_of<S: Sound>(sound: &S, channel: usize) -> u64
 /// The samples before a place of a sound.
 fn history_before<S: Sound>(sound: &S, channel: usize, place: u64, scratch: &mut Scratch) -> History
     requires channel { channel < length (S.lists sound.now) }
-    requires inside { place ≤ S.frames sound.now + 11 }
+    requires inside { place ≤ S.frames sound.now + PEAK_REACH }
     requires room { S.scratch_size sound.now ≤ length scratch.old.cells }
     ensures history { result.before
         ≡ history_at (S.depth sound.now) (samples_of (S.lists sound.now) channel) place }
     ensures room { length scratch.new.cells ≡ length scratch.old.cells }
 {
-    let start = place.saturating_sub(REACH as u64);
+    let start = place.saturating_sub(PEAK_REACH as u64);
     let count = (place - start).min(length_of(sound, channel) - start);
-    let mut piece = [0; REACH];
+    let mut piece = [0; PEAK_REACH];
     let run = over_piece(
         Run::new(),
         sound,

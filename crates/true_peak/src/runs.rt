@@ -1,10 +1,12 @@
 //! A run over places, which keeps the greatest size so far.
 ghost use Rattle.std.specs.Prelude.{◌≡◌, ◌≤◌, ◌<◌, ◌+◌, ◌-◌, ◌*◌, ◌^◌, ℕ, ℤ, pos, List, length, take, max, All, IsTrue, ◌↔◌, unsigned_abs};
 ghost use Rattle.lib_base.specs.Sounds.{IsSample, part};
-ghost use Rattle.sound_model.specs.Peaks.{scaled, sample_before};
+ghost use Rattle.lib_base.specs.declared.limits.TheConstants.{LEAST_DEPTH, GREATEST_DEPTH};
+ghost use Rattle.sound_model.specs.Peaks.{sample_before};
 ghost use Rattle.true_peak.specs.Windows.{history_at, size_after};
 
 use crate::history::History;
+use lib_base::scaled;
 
 /// A run over places.
 ///
@@ -97,8 +99,8 @@ impl Run {
 
     /// The run over the places of these samples of `depth` bits.
     pub fn over_samples(self, samples: &[i32], depth: u32) -> Run
-        requires low { 4 ≤ depth }
-        requires high { depth ≤ 24 }
+        requires low { LEAST_DEPTH ≤ depth }
+        requires high { depth ≤ GREATEST_DEPTH }
         requires within { All (IsSample depth) samples.now }
         ensures { (all : List ℤ) (first place : ℕ) → first ≤ place
             → samples.now ≡ part all place (length samples.now)
@@ -107,7 +109,7 @@ impl Run {
     {
         let mut run = self;
         for i in 0..samples.len() {
-            run = run.over(scaled_value(samples[i], depth));
+            run = run.over(scaled(samples[i], depth));
         }
         run
     }
@@ -124,25 +126,4 @@ impl Run {
         }
         passed
     }
-}
-
-/// A sample, scaled to 24 bits.
-#[inline(always)]
-fn scaled_value(sample: i32, depth: u32) -> i64
-    requires low { 4 ≤ depth }
-    requires high { depth ≤ 24 }
-    requires within { IsSample depth sample }
-    ensures value { result ≡ scaled depth sample }
-    ensures small { unsigned_abs result ≤ 2 ^ 23 }
-{
-    i64::from(sample) * scale(depth)
-}
-
-#[inline(always)]
-fn scale(depth: u32) -> i64
-    requires low { 4 ≤ depth }
-    requires high { depth ≤ 24 }
-    ensures { result ≡ pos (2 ^ (24 - depth)) }
-{
-    (1u64 << (24 - depth)) as i64
 }

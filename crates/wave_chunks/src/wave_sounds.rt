@@ -9,8 +9,7 @@ ghost use Rattle.wave_chunks.specs.Answers.{IsReadOf};
 ghost use Rattle.wave_chunks.specs.Held.{channels_held, samples_held};
 
 use crate::Wave;
-use crate::waves::content_of;
-use lib_base::{Scratch, Sound};
+use lib_base::{Scratch, Sound, content_of};
 
 /// The sound of a wave file. It holds no sample: each part is read from the file's bytes when it is
 /// asked for.

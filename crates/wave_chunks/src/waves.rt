@@ -1,7 +1,6 @@
 //! What a wave file is made of.
 ghost use Rattle.std.specs.Prelude.{◌≡◌, ◌≤◌, ◌<◌, ◌+◌, ◌-◌, ◌%◌, ◌*◌, length, codes, IfOk, IfErr, OnOk};
 ghost use Rattle.file_model.specs.Rules.{BreaksNoneBelow};
-ghost use Rattle.lib_base.specs.Sounds.{part};
 ghost use Rattle.wave_chunks.specs.Answers.{IsReadOf, IsRefusalOf};
 ghost use Rattle.wave_chunks.specs.Formats.{SaysFormat};
 ghost use Rattle.wave_chunks.specs.Spans.{IsHeaded, AtMostOne, HasOne, HasRightBext};
@@ -13,7 +12,7 @@ use crate::format::{Format, read_format};
 use crate::parts::find_parts;
 use file_model::WaveRule;
 use file_model::wave_fields::{BEXT_BYTES, CHUNKS_AT, FORM_AT, SIZE_AT};
-use lib_base::{Refused, Span};
+use lib_base::{Refused, Span, content_of};
 use std::alloc::Global;
 use std::marker::Model;
 
@@ -175,16 +174,6 @@ fn check_bext(bytes: &[u8], found: Option<Span>) -> Result<(), Refused>
         return Err(broken(WaveRule::ShortBext, head_before(span)));
     }
     Ok(())
-}
-
-/// The bytes that lie in a span.
-pub(crate) fn content_of(bytes: &[u8], span: Span) -> &[u8]
-    requires ordered { span.start ≤ span.end }
-    requires inside { span.end ≤ length bytes.now }
-    ensures { result.now ≡ part bytes.now span.start (span.end - span.start) }
-{
-    let rest = bytes.split_at(span.start).1;
-    rest.split_at(span.end - span.start).0
 }
 
 /// How many bytes lie in a span.

@@ -1,6 +1,6 @@
 use Rattle.std.proofs.Common.{◌≡◌, ◌++◌, length, map}
 use Rattle.std.specs.Vec.Iter.{into_iter_items, into_iter_len}
-use Rattle.catalogue_rows.specs.Tallied.{album_row, album_members}
+use Rattle.catalogue_rows.specs.Holding.{album_row, album_members}
 use Rattle.catalogue_rows.proofs.joining.join_albums.Given as goal
 
 -- what is joined, and what is left to join

@@ -1,6 +1,6 @@
 use Rattle.std.proofs.Common.{◌≡◌, ◌++◌, length, map}
 use Rattle.std.specs.Vec.Iter.{into_iter_items, into_iter_len}
-use Rattle.catalogue_rows.specs.Tallied.{recording_row, own_tally}
+use Rattle.catalogue_rows.specs.Holding.{recording_row, own_tally}
 use Rattle.catalogue_rows.proofs.joining.join_recordings.Given as goal
 
 -- what is joined, and what is left to join

@@ -5,7 +5,7 @@ use Rattle.album_merge.specs.Members.{Kept, IsAlbumOf, measured_of}
 use Rattle.library_model.specs.RowRules.{other_album_summary}
 use Rattle.sound_model.specs.Albums.{IsAlbumSummary}
 use Rattle.catalogue_rows.specs.Opening.{AreAlbumsOf, IsFirstAnswer, IsFirstOther}
-use Rattle.catalogue_rows.specs.Tallied.{album_of}
+use Rattle.catalogue_rows.specs.Holding.{album_of}
 use Rattle.catalogue_rows.proofs.Placed.{AllZip-as, AllZip-long}
 use Rattle.catalogue_rows.proofs.Summed.{albums_other, other_is}
 use Rattle.catalogue_rows.proofs.summing.first_other.Goals as goal

@@ -1,6 +1,6 @@
 use Rattle.std.proofs.Common.{◌≡◌, ◌≤◌, ◌-◌, Vec, Global, length, map}
 use Rattle.std.specs.Prelude.{ℤ}
-use Rattle.file_model.specs.declared.flac_fields.TheConstants.{MOST_SAMPLES}
+use Rattle.lib_base.specs.declared.limits.TheConstants.{MOST_SAMPLES}
 use Rattle.flac_stream.specs.Hearing.{AreDecoded}
 use Rattle.flac_stream.proofs.decoding.decode_frames.Given as goal
 

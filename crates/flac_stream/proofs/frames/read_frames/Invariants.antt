@@ -1,5 +1,5 @@
 use Rattle.std.proofs.Common.{◌≡◌, ◌≤◌, ◌-◌, length}
-use Rattle.file_model.specs.declared.flac_fields.TheConstants.{MOST_SAMPLES}
+use Rattle.lib_base.specs.declared.limits.TheConstants.{MOST_SAMPLES}
 use Rattle.flac_stream.specs.Hearing.{HaveHeard}
 use Rattle.flac_stream.proofs.frames.read_frames.Given as goal
 

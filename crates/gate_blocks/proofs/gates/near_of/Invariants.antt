@@ -1,7 +1,7 @@
 use Rattle.std.proofs.Common.{◌≤◌, ◌*◌, nat_lt, take}
 use Rattle.std.specs.Prelude.{filter, ◌&&◌}
+use Rattle.lib_base.specs.declared.limits.TheConstants.{BLOCK_SEGMENTS, GREATEST_ENERGY}
 use Rattle.sound_model.specs.Loudness.{is_audible}
-use Rattle.sound_model.specs.Segments.{greatest_energy}
 use Rattle.gate_blocks.specs.Bounds.{IsTallyOf}
 use Rattle.gate_blocks.proofs.gates.near_of.Given as goal
 
@@ -10,5 +10,5 @@ invariant-loop-energy l = record {
   tally : IsTallyOf (filter (λ e. is_audible e && nat_lt l.audible.sum (10 * l.audible.count * e)) (take l.energy-index l.blocks)) l.count l.sum;
   few : l.count ≤ l.energy-index;
   some_each : l.count ≤ l.sum;
-  within : l.sum ≤ l.count * (4 * greatest_energy);
+  within : l.sum ≤ l.count * (BLOCK_SEGMENTS * GREATEST_ENERGY);
 }

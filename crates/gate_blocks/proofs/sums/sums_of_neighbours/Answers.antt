@@ -1,8 +1,8 @@
 use Rattle.std.proofs.Common.{◌≡◌, ◌+◌, ◌≤◌, ◌*◌, ℕ, List, ◌++◌, drop, length, length-drop, ap, ◌∙◌, sym, arith}
 use Rattle.std.proofs.lemmas.List.{append-nil}
 use Rattle.std.proofs.lemmas.List.Elements.{All-same}
+use Rattle.lib_base.specs.declared.limits.TheConstants.{GREATEST_ENERGY}
 use Rattle.sound_model.specs.Blocks.{neighbour_sums}
-use Rattle.sound_model.specs.Segments.{greatest_energy}
 use Rattle.gate_blocks.proofs.Summing.{neighbour_sums-none, sums-grow, length-neighbour_sums, All-neighbour_sums}
 use Rattle.gate_blocks.proofs.sums.sums_of_neighbours.Goals as goal
 use Rattle.gate_blocks.proofs.sums.sums_of_neighbours.Goals.{After-of}
@@ -27,8 +27,8 @@ returns-clause-sums c = sums_are c
 
 pub returns-clause-within : goal.returns-clause-within
 returns-clause-within c =
-    All-same (λ z. z ≤ c.args.count * greatest_energy) _ _ (sums_are c)
-    (All-neighbour_sums greatest_energy c.args.count c.args.segments.now c.requires.within)
+    All-same (λ z. z ≤ c.args.count * GREATEST_ENERGY) _ _ (sums_are c)
+    (All-neighbour_sums GREATEST_ENERGY c.args.count c.args.segments.now c.requires.within)
 
 pub returns-clause-few : goal.returns-clause-few
 returns-clause-few c =

@@ -1,10 +1,6 @@
-use Rattle.std.proofs.Common.{◌∙◌, sym, ap}
-use Rattle.http_model.specs.Asking.{if_token}
-use Rattle.http_asking.proofs.TextLemmas.{if_token-other}
+use Rattle.std.proofs.lemmas.Result.{IfOk-weaker}
+use Rattle.http_asking.proofs.TextLemmas.{if_token-of}
 use Rattle.http_asking.proofs.fields.token_of.Goals as goal
 
-pub returns-in-Ok : goal.returns-in-Ok
-returns-in-Ok c = c.if_token.ensures ∙ ap if_token c.in-Ok.ensures.cases.0
-
-pub returns-in-Err : goal.returns-in-Err
-returns-in-Err c = sym (if_token-other c.args.text.now c.in-Err.ensures.cases.0)
+pub returns : goal.returns
+returns c = IfOk-weaker c.of.result _ _ (if_token-of c.args.text.now) c.of.ensures

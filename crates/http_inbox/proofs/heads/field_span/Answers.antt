@@ -1,5 +1,5 @@
 use Rattle.std.proofs.Common.{sym, ap, ◌∙◌}
-use Rattle.http_model.specs.Framing.{is_named}
+use Rattle.http_model.specs.Fields.{is_named}
 use Rattle.http_inbox.proofs.FieldLemmas.{repeated, first_found, passed_over, values_from-named, values_from-other}
 use Rattle.http_inbox.proofs.heads.field_span.Goals.{then-is_same+else-is_some, else-is_same}
 use Rattle.http_inbox.proofs.heads.field_span.Goals as goal

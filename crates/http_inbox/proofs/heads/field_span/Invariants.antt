@@ -1,6 +1,6 @@
 use Rattle.std.proofs.Common.{map, drop}
 use Rattle.httparse.specs.Spans.{header_bytes}
-use Rattle.http_model.specs.Framing.{values_of}
+use Rattle.http_model.specs.Fields.{values_of}
 use Rattle.http_inbox.proofs.FieldLemmas.{Found}
 use Rattle.http_inbox.proofs.heads.field_span.Given as goal
 

@@ -1,5 +1,5 @@
 use Rattle.std.proofs.Common.{sym, ◌∙◌}
-use Rattle.http_model.specs.Framing.{is_named}
+use Rattle.http_model.specs.Fields.{is_named}
 use Rattle.http_inbox.proofs.FieldLemmas.{any_from-here, any_from-next}
 use Rattle.http_inbox.proofs.heads.has_value.Goals as goal
 

@@ -1,7 +1,7 @@
 use Rattle.std.proofs.Common.{◌≡◌, map, drop}
 use Rattle.std.specs.List.{list_any}
 use Rattle.httparse.specs.Spans.{header_bytes}
-use Rattle.http_model.specs.Framing.{is_named, values_of}
+use Rattle.http_model.specs.Fields.{is_named, values_of}
 use Rattle.http_inbox.proofs.heads.has_value.Given as goal
 
 -- no header line passed so far

@@ -1,36 +1,24 @@
-use Rattle.std.proofs.Common.{◌∙◌, ◌≡◌, ◌≤◌, ◌^◌, ◌*ℤ◌, ℤ, subst, sym, rules, unsigned_abs, w32, w64, FitsSigned}
-use Rattle.std.proofs.lemmas.Int.{to_z-of_z}
+use Rattle.std.proofs.Common.{◌≡◌, ◌≤◌, ◌^◌, ◌*ℤ◌, ℕ, ℤ, pos, ap, rules, arith, unsigned_abs, w32, w64, FitsSigned}
+use Rattle.std.proofs.lemmas.Int.{to_z-of_z, unsigned_abs-mul, fits_signed_from_abs}
+use Rattle.lib_base.specs.Sounds.{scaled}
 use Rattle.sound_model.specs.Weighted.{entering}
-use Rattle.k_filter.proofs.Scales.{entering_is, entering_fits, entering_small}
 use Rattle.k_filter.proofs.filters.entering_value.Goals as goal
 
-same_product : (c : goal.After-scale) → c.from.result *ℤ c.scale.result ≡ entering c.args.depth c.args.sample
-same_product c =
-    entering_is c.args.depth c.args.sample c.from.result c.scale.result
-    (c.from.ensures ∙ to_z-of_z w32 c.args.sample c.ranges.sample) c.scale.ensures
+-- the code's product is the sample as it enters
+entering_is : (depth : ℕ) (sample value : ℤ) → value ≡ scaled depth sample → value *ℤ pos 65536 ≡ entering depth sample
+unfolding entering
+entering_is depth sample value is = ap (λ (z : ℤ). z *ℤ pos 65536) is
 
-product_fits : (c : goal.After-scale) → FitsSigned w64 (c.from.result *ℤ c.scale.result)
-product_fits c =
-    entering_fits c.args.depth c.args.sample c.from.result c.scale.result c.requires.low c.requires.high c.requires.within (same_product c)
-
-pub overflow_mul-result : goal.overflow_mul-result
-overflow_mul-result c =
-    let from_fits : FitsSigned w64 c.from.result = search rules in
-    let scale_fits : FitsSigned w64 c.scale.result = search rules in
-    simp to_z-of_z (product_fits c)
+-- and it fits
+product_fits : (value : ℤ) → unsigned_abs value ≤ 2 ^ 23 → FitsSigned w64 (value *ℤ pos 65536)
+product_fits value small =
+    let size = unsigned_abs-mul value (pos 65536) in
+    fits_signed_from_abs w64 (value *ℤ pos 65536) (omega (arith, size, small))
 
 pub returns-clause-value : goal.returns-clause-value
 returns-clause-value c =
-    let from_fits : FitsSigned w64 c.from.result = search rules in
-    let scale_fits : FitsSigned w64 c.scale.result = search rules in
-    let fits = product_fits c in
-    simp to_z-of_z (same_product c)
-
-pub returns-clause-small : goal.returns-clause-small
-returns-clause-small c =
-    let from_fits : FitsSigned w64 c.from.result = search rules in
-    let scale_fits : FitsSigned w64 c.scale.result = search rules in
-    let fits = product_fits c in
-    let P : ℤ → Type 0 = λ z. unsigned_abs z ≤ 2 ^ 39 in
-    simp to_z-of_z
-    (subst P (sym (same_product c)) (entering_small c.args.depth c.args.sample c.requires.low c.requires.high c.requires.within))
+    let sample_fits : FitsSigned w32 c.args.sample = c.ranges.sample in
+    let fits : FitsSigned w64 c.scaled.result = search rules in
+    let value = simp to_z-of_z at c.scaled.ensures.value in
+    let product = product_fits c.scaled.result c.scaled.ensures.small in
+    simp to_z-of_z (entering_is c.args.depth c.args.sample c.scaled.result value)

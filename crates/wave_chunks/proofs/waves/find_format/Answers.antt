@@ -15,7 +15,7 @@ content_of-requires-clause-inside c =
 pub read_format-requires-clause-is_content : goal.read_format-requires-clause-is_content
 read_format-requires-clause-is_content c =
     format_content c.args.bytes.now c.in-Some.span c.content_of.result.now (subst (AtMostOne c.args.bytes.now (codes "fmt ")) c.in-Some.is c.requires.found)
-    c.content_of.ensures
+    c.content_of.ensures.content
 
 pub read_format-requires-clause-lower : goal.read_format-requires-clause-lower
 read_format-requires-clause-lower c =
@@ -25,6 +25,6 @@ pub returns-clause-format : goal.returns-clause-format
 returns-clause-format c =
     says_result c.args.bytes.now c.content_of.result.now c.in-Some.span.start c.read_format.result
     (format_content c.args.bytes.now c.in-Some.span c.content_of.result.now (subst (AtMostOne c.args.bytes.now (codes "fmt ")) c.in-Some.is c.requires.found)
-    c.content_of.ensures)
+    c.content_of.ensures.content)
     c.read_format.ensures.format c.read_format.ensures.some c.read_format.ensures.few c.read_format.ensures.channels c.read_format.ensures.depth
     c.read_format.ensures.align

@@ -7,7 +7,7 @@ use Rattle.keeper_store.specs.Puts.{Ascends, album_less}
 use Rattle.library_model.specs.RowRules.{album_is_there, measured_in}
 use Rattle.album_merge.specs.Tallies.{StandsForMeasured}
 use Rattle.catalogue_rows.specs.Opening.{AreAlbumsOf, HavePlace, with_row}
-use Rattle.catalogue_rows.specs.Tallied.{album_of}
+use Rattle.catalogue_rows.specs.Holding.{album_of}
 use Rattle.catalogue_rows.proofs.Taken.{its_album, its_place, taken_in}
 use Rattle.catalogue_rows.proofs.Unbroken.{unbroken}
 use Rattle.catalogue_rows.proofs.building.Built.take_in.Goals as goal

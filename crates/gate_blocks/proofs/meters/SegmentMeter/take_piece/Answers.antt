@@ -6,8 +6,8 @@ use Rattle.gate_blocks.specs.Meters.{Meter}
 use Rattle.gate_blocks.proofs.Segmenting.{fed_within, fed_ending}
 use Rattle.gate_blocks.proofs.meters.SegmentMeter.take_piece.Goals as goal
 
-pub returns-then-self-eq-SEGMENT-clause-fed : goal.returns-then-self-eq-SEGMENT-clause-fed
-returns-then-self-eq-SEGMENT-clause-fed c =
+pub returns-then-self-eq-SEGMENT_FRAMES-clause-fed : goal.returns-then-self-eq-SEGMENT_FRAMES-clause-fed
+returns-then-self-eq-SEGMENT_FRAMES-clause-fed c =
     λ xs was.
     let old = c.args.self.now in
     let inside = c.self.inside in
@@ -21,8 +21,8 @@ returns-then-self-eq-SEGMENT-clause-fed c =
     ∙ ap (λ n. old.energies ++ n ∷ []) last)
     refl
 
-pub returns-else-self-eq-SEGMENT-clause-fed : goal.returns-else-self-eq-SEGMENT-clause-fed
-returns-else-self-eq-SEGMENT-clause-fed c =
+pub returns-else-self-eq-SEGMENT_FRAMES-clause-fed : goal.returns-else-self-eq-SEGMENT_FRAMES-clause-fed
+returns-else-self-eq-SEGMENT_FRAMES-clause-fed c =
     λ xs was.
     let counts = ap (λ (m : Meter). m.count) c.self.view_is in
     let lists = ap (λ (m : Meter). m.energies) c.self.view_is in

@@ -12,8 +12,8 @@ loop-i-preserved c = λ all first place order is_part heard.
     let samples = c.args.samples.now in
     let inside : i < length samples = omega arith in
     let x_fits : FitsSigned w32 (get_or samples i (pos 0)) = search rules in
-    let value_fits : FitsSigned w64 c.scaled_value.result = search rules in
-    let value = simp to_z-of_z at c.scaled_value.ensures.value in
+    let value_fits : FitsSigned w64 c.scaled.result = search rules in
+    let value = simp to_z-of_z at c.scaled.ensures.value in
     Heard-at c.over-run.result c.args.depth all first (place + i + 1) (place + (i + 1)) (omega arith)
     (c.over-run.ensures c.args.depth all first (place + i) (omega (arith, order))
     (to_z-of_z w64 _ value_fits ∙ value ∙ sample_of_piece c.args.depth samples all place i inside is_part)

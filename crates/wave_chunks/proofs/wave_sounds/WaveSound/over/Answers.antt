@@ -20,7 +20,7 @@ invariant_of-result c =
     let wave = c.args.wave.now in
     let content = c.content_of.result.now in
     let is : content ≡ part bytes wave.samples.start (wave.samples.end - wave.samples.start) =
-    c.content_of.ensures ∙ ap (λ (s : Span). part bytes s.start (s.end - s.start)) c.samples.ensures in
+    c.content_of.ensures.content ∙ ap (λ (s : Span). part bytes s.start (s.end - s.start)) c.samples.ensures in
     record {
       known = known_depth c.depth.result (subst IsDepth (sym c.depth.ensures) (depth_of_read bytes wave c.requires));
       whole = held_whole bytes content wave c.requires c.depth.result c.channels.result c.frames.result is c.depth.ensures c.channels.ensures c.frames.ensures;
@@ -31,7 +31,7 @@ pub returns-clause-lists : goal.returns-clause-lists
 returns-clause-lists c = λ sound wave.
     let bytes = c.args.bytes.now in
     let read = c.requires in
-    let is = c.content_of.ensures ∙ ap (λ (s : Span). part bytes s.start (s.end - s.start)) c.samples.ensures in
+    let is = c.content_of.ensures.content ∙ ap (λ (s : Span). part bytes s.start (s.end - s.start)) c.samples.ensures in
     held_is bytes c.content_of.result.now c.args.wave.now read c.depth.result c.channels.result c.frames.result is c.depth.ensures c.channels.ensures
     c.frames.ensures
     ∙ ap (λ (s : Pcm). s.lists) (IsWave_unique bytes read.sound sound (read.chunks, read.reads) wave)

@@ -1,0 +1,8 @@
+use Rattle.catalogue_core.proofs.resumming.resum_with.Goals as goal
+
+pub returns-clause-row : goal.returns-clause-row
+returns-clause-row g c = rw c.in-Some.is (λ t next holds it. c.in_ok-row.ensures t next (c.summary_with-levels.ensures.held t holds) (record {
+  there = it.1.there;
+  some = c.summary_with-levels.ensures.some t next holds it.0 it.1;
+  sums = c.summary_with-levels.ensures.summary t next holds it.0;
+}))

@@ -1,0 +1,5 @@
+pub mod TokenLemmas
+pub mod Finding
+pub mod KeptRows
+pub mod SeenLaws
+pub mod Repeats

@@ -1,0 +1,5 @@
+pub mod Holding
+pub mod Orders
+pub mod Rows
+pub mod Seeing
+pub mod Tokens
