@@ -12,7 +12,7 @@ pub mod OutcomesLemmas
 pub mod Pairings
 pub mod Predictions
 pub mod Readings
-pub mod Rows
+pub mod WorkedWaves
 pub mod Samples
 pub mod Spellings
 pub mod Waves

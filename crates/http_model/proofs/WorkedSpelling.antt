@@ -7,7 +7,7 @@ use Rattle.sound_model.specs.Texts.{millionths}
 use Rattle.library_model.specs.declared.refusals.Refusal.TheVariants.{NoRecording, Memory}
 use Rattle.library_model.specs.Machine.{recording_reply}
 use Rattle.library_model.specs.Replies.{format_refusal, refusal}
-use Rattle.library_model.proofs.Rows.{row_recording}
+use Rattle.library_model.proofs.WorkedReplies.{row_recording}
 use Rattle.http_routes.specs.declared.routes.Route.TheVariants.{Recording}
 use Rattle.http_routes.specs.Routes.{methods_of}
 use Rattle.http_model.specs.declared.refusals.AskingRefusal.TheVariants.{Method}

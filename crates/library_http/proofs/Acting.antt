@@ -169,6 +169,7 @@ Acts-kept s asked reply w0 w1 keeps answer again others tables counts calls touc
   keys = Goes-weaker (OthersKept s.next_take) (OtherKeysKept s.next_take (taken_out s s))
       (λ old new kept key apart differs. kept key apart) w0.vault.blobs w1.vault.blobs others;
   applies = touches.applies;
+  applied = λ differs. absurd (differs refl);
   untouched = λ _ below. touches.neither below;
   complete = settled_without_faults s asked reply s w0 w1 answer counts;
   granted = λ vault keeper may. faultless_grants s asked reply s (settled_without_faults s asked reply s w0 w1 answer counts vault keeper) may;
@@ -426,6 +427,7 @@ Acts-made s token mark wanted p reply r lib0 lib1 lib2 lib3 k0 k2 v0 v1 v3 keeps
           swept key (subst (λ (takes : List ℕ). AllByRecursion (λ take. key ≢ take) takes) prepares.released_is differs) ∙ kept key apart)
           v0.blobs v1.blobs v3.blobs others (swept_keys p.released v1 v3 clears);
       applies = at_most k0.applies k2.applies once;
+      applied = λ _. once;
       untouched = λ same _. absurd (accepted_moves s token mark wanted p.reply next prepares.decides same);
       complete = λ _ _. inl (accepts p.reply next, (prepares.decides, made.reply_is, refl));
       granted = λ _ _ may. faultless_grants s asked reply next (inl (accepts p.reply next, (prepares.decides, made.reply_is, refl))) may;

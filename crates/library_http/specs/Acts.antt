@@ -3,7 +3,7 @@ use Rattle.std.specs.Prelude.{◌≡◌, ◌≢◌, ◌<◌, ◌+◌, ◌⊎◌,
 use Rattle.std.specs.List.{AllByRecursion}
 use Rattle.lib_base.specs.Faults.{Rose}
 use Rattle.keeper_store.specs.Blobs.{Blobs}
-use Rattle.keeper_store.specs.Goes.{Goes, RoseByOneAtMost}
+use Rattle.keeper_store.specs.Goes.{Goes, RoseByOneAtMost, RoseByOne}
 use Rattle.library_model.specs.declared.messages.Reply.{Reply}
 use Rattle.library_model.specs.declared.refusals.Refusal.TheVariants as cause
 use Rattle.library_model.specs.Asked.{Asked, spares_vault}
@@ -63,9 +63,10 @@ abbrev pub server_fault : ℕ
 server_fault = 500
 
 -- A request was answered from a state. What it took out is swept, or the vault's count rose. The vault changed under the next take and
--- what was taken out alone, and was not called by a request that spares it. One change at most was handed to the keeper. A request that
--- leaves the state for its own sake, as a question, a refusal and a repeat do, touched neither. Where neither count of faults rose, the
--- request was answered as it is decided, or memory was wanting; so an import or a retake that nothing refuses was granted then.
+-- what was taken out alone, and was not called by a request that spares it. One change at most was handed to the keeper, and just one
+-- where the state is another. A request that leaves the state for its own sake, as a question, a refusal and a repeat do, touched
+-- neither. Where neither count of faults rose, the request was answered as it is decided, or memory was wanting; so an import or a
+-- retake that nothing refuses was granted then.
 pub record Acts (s : State) (asked : Asked) (reply : Reply) (before now : World) : Type 0 where
   pub next : State
   pub answers : Answer s asked reply next
@@ -74,6 +75,7 @@ pub record Acts (s : State) (asked : Asked) (reply : Reply) (before now : World)
   pub calls : spares_vault asked ≡ true → now.vault.calls ≡ before.vault.calls
   pub keys : Goes (OtherKeysKept s.next_take (taken_out s next)) before.vault.blobs now.vault.blobs
   pub applies : RoseByOneAtMost before.keeper.applies now.keeper.applies
+  pub applied : next ≢ s → RoseByOne before.keeper.applies now.keeper.applies
   pub untouched : next ≡ s → reply.status < server_fault → (now.keeper ≡ before.keeper) × (now.vault ≡ before.vault)
   pub complete : ¬ Rose before.vault.faults now.vault.faults → ¬ Rose before.keeper.faults now.keeper.faults
       → IsFaultless s asked reply next

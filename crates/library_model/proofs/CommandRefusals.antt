@@ -1,5 +1,5 @@
 -- A refused command has the status of an error of the client (RFC 9110 section 15.5), so none that is kept.
-use Rattle.std.proofs.Common.{◌≡◌, ◌≤◌, ◌||◌, inl, inr, ℕ, Bool, true, false, nat_le, nat_lt, Option, None, Some, List, sym, subst, arith, length}
+use Rattle.std.proofs.Common.{◌≤◌, ◌||◌, inl, inr, ℕ, Bool, true, false, nat_le, nat_lt, Option, None, Some, List, sym, subst, arith, length}
 use Rattle.std.specs.Prelude.{⊤}
 use Rattle.lib_base.specs.declared.limits.TheConstants.{NUMBERS_END}
 use Rattle.library_model.specs.declared.messages.Command.{Command}

@@ -1,5 +1,5 @@
 -- Exchanges that go on where others ended, as those of one connection behind another's.
-use Rattle.std.proofs.Common.{◌≡◌, ℕ, List, [], ◌∷◌, ◌++◌, sym, ap, ◌∙◌, subst, append_assoc}
+use Rattle.std.proofs.Common.{ℕ, List, [], ◌∷◌, ◌++◌, sym, ap, ◌∙◌, subst, append_assoc}
 use Rattle.library_model.specs.Exchanges.{Answers, Exchange}
 use Rattle.library_model.specs.Machine.{taken_out}
 use Rattle.library_model.specs.State.{State}

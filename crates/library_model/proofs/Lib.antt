@@ -7,7 +7,7 @@ pub mod CommandRefusals
 pub mod Measuring
 pub mod Verdicts
 pub mod RowBounds
-pub mod Rows
+pub mod WorkedReplies
 pub mod WorkedRules
 pub mod WaveFiles
 pub mod SegmentRows

@@ -3,7 +3,7 @@ use Rattle.std.proofs.Common.{◌≡◌, ℕ, zero, suc, true, false, Some, None
 use Rattle.std.specs.Fmt.{digits}
 use Rattle.serde_json.proofs.OnLiterals.{serde_json_on_literals}
 use Rattle.lib_base.specs.declared.outcomes.Rule.TheVariants.{V}
-use Rattle.file_model.proofs.Rows.{four_frames}
+use Rattle.file_model.proofs.WorkedWaves.{four_frames}
 use Rattle.sound_model.specs.Texts.{millionths}
 use Rattle.library_model.specs.declared.messages.Command.TheVariants.{NewAlbum, Import, Retake, Regroup, RemoveRecording, RemoveAlbum}
 use Rattle.library_model.specs.declared.messages.Question.TheVariants as about
@@ -15,7 +15,7 @@ use Rattle.library_model.specs.Machine.{Decides, DecidesCommand, accepts, album_
 use Rattle.library_model.specs.Replies.{json, format_refusal, refusal}
 use Rattle.library_model.specs.State.{Album, Recording, State, empty_state}
 use Rattle.library_model.proofs.LeadsAlbums.{no_levels-summed}
-use Rattle.library_model.proofs.Rows.{row_file-Finds, row_recording, row_sound, row_summary}
+use Rattle.library_model.proofs.WorkedReplies.{row_file-Finds, row_recording, row_sound, row_summary}
 
 -- ---- small states
 

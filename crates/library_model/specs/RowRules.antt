@@ -1,6 +1,6 @@
 -- The rules of rows: of each its number and its fact, and the first row of tables that breaks one. Rows are tried table by table, row by
 -- row, and for one row in the order of the rules; summaries are tried last, where no row breaks another rule.
-use Rattle.std.specs.Prelude.{◌≡◌, ◌⊎◌, ◌+◌, ◌/◌, ◌%◌, ◌==◌, ◌&&◌, ◌||◌, not, ℕ, Bool, true, false, List, [], ◌∷◌, length, map, filter, count_by, option_map, nat_le, nat_lt, Option, None, Some, if◌then◌else◌}
+use Rattle.std.specs.Prelude.{◌≡◌, ◌⊎◌, ◌+◌, ◌/◌, ◌%◌, ◌==◌, ◌&&◌, ◌||◌, not, ℕ, Bool, true, false, List, [], ◌∷◌, ◌++◌, codes, decimal, length, map, filter, count_by, option_map, nat_le, nat_lt, Option, None, Some, if◌then◌else◌}
 use Rattle.std.specs.Cmp.Lexicographic.{slice_cmp}
 use Rattle.std.specs.List.{list_any, list_all, AllByRecursion}
 use Rattle.std.specs.Option.{option_or}
@@ -42,6 +42,12 @@ row_rule_number OtherTake = 6
 row_rule_number CrowdedAlbum = 7
 row_rule_number OtherSummary = 8
 row_rule_number OtherStatus = 9
+
+-- how a bad row prints: its table, its id and the rule that it breaks, by their numbers, as `table 3 id 3 rule 2`
+abbrev pub bad_row_text : BadRow → List ℕ
+bad_row_text bad =
+    codes "table " ++ decimal (table_number bad.table) ++ codes " id " ++ decimal bad.id
+    ++ codes " rule " ++ decimal (row_rule_number bad.rule)
 
 -- ---- one row: the rule that it breaks, the first of several
 

@@ -1,6 +1,8 @@
 //! The rules of rows, and the row that breaks one.
-ghost use Rattle.std.specs.Prelude.{◌≡◌};
-ghost use Rattle.library_model.specs.RowRules.{row_rule_number, table_number};
+ghost use Rattle.std.specs.Prelude.{◌≡◌, Some};
+ghost use Rattle.library_model.specs.RowRules.{bad_row_text, row_rule_number, table_number};
+
+use std::fmt;
 
 /// The tables, in the order of their numbers, the first of which is 1.
 #[derive(Clone, Copy, Debug, PartialEq, Eq)]
@@ -65,4 +67,15 @@ pub struct BadRow {
     /// The row's id or take; of the counters and of kept replies its place, counted from 1.
     pub id: u64,
     pub rule: RowRule,
+}
+
+/// Prints as `table 3 id 3 rule 2`.
+impl fmt::Display for BadRow {
+    ghost output = { λ bad. Some (bad_row_text bad) };
+
+    fn fmt<W: fmt::Write>(&self, f: &mut fmt::Formatter<W>) -> fmt::Result {
+        let table = self.table.number();
+        let rule = self.rule.number();
+        write!(f, "table {table} id {} rule {rule}", self.id)
+    }
 }

@@ -3,7 +3,7 @@ use Rattle.std.specs.Prelude.{◌≡◌, ◌⊎◌, ℕ, List, [], ◌∷◌, �
 use Rattle.std.specs.Io.KnownBytes.{Appends}
 use Rattle.lib_base.specs.Writes.{AppendsPart, SinkView}
 use Rattle.library_model.specs.declared.bad_rows.BadRow.{BadRow}
-use Rattle.library_model.specs.RowRules.{table_number, row_rule_number}
+use Rattle.library_model.specs.RowRules.{bad_row_text}
 use Rattle.library_http.specs.declared.serving.How.{How}
 use Rattle.library_http.specs.declared.serving.How.TheVariants.{Ended, Unframeable, Turns, SourceFault, SinkFault, Memory}
 use Rattle.report_cli.specs.declared.statuses.Status.{Status}
@@ -14,14 +14,9 @@ use Rattle.report_cli.specs.Statuses.{code}
 abbrev pub usage_line : List ℕ
 usage_line = codes "usage: loudlib session, serve, report, audit, trial or tag" ++ 10 ∷ []
 
--- the line for a row of an id in a table, by their numbers, and the number of the rule that it breaks
-abbrev pub row_line : ℕ → ℕ → ℕ → List ℕ
-row_line table id rule =
-    codes "bad row: table " ++ decimal table ++ codes " id " ++ decimal id ++ codes " rule " ++ decimal rule ++ 10 ∷ []
-
--- that of a bad row
+-- the line for a row that breaks a rule, as `bad row: table 3 id 3 rule 2`
 abbrev pub bad_row_line : BadRow → List ℕ
-bad_row_line bad = row_line (table_number bad.table) bad.id (row_rule_number bad.rule)
+bad_row_line bad = codes "bad row: " ++ bad_row_text bad ++ 10 ∷ []
 
 -- the word for how a connection ended
 abbrev pub end_word : How → List ℕ

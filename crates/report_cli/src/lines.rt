@@ -3,7 +3,7 @@ ghost use Rattle.std.specs.Prelude.{◌≡◌, ◌≢◌, IfOk, string_bytes};
 ghost use Rattle.lib_base.specs.Faults.{CountsFault};
 ghost use Rattle.lib_base.specs.Writes.{WritesAll};
 ghost use Rattle.report_cli.specs.Lines as lines;
-ghost use Rattle.report_cli.specs.Lines.{usage_line, bad_row_line, row_line, end_line, Prints};
+ghost use Rattle.report_cli.specs.Lines.{usage_line, bad_row_line, end_line, Prints};
 ghost use Rattle.report_cli.specs.Statuses.{code};
 
 use crate::statuses::Status;
@@ -51,16 +51,7 @@ pub(crate) fn print_end<K: Sink>(
 fn bad_row_text(alloc: Global, bad: BadRow) -> Result<String, Memory>
     ensures { IfOk result (λ text. string_bytes text ≡ bad_row_line bad) }
 {
-    let table = bad.table.number();
-    let rule = bad.rule.number();
-    row_text(alloc, table, bad.id, rule)
-}
-
-/// The line for a row of an id in a table, and the rule that it breaks, by their numbers.
-fn row_text(alloc: Global, table: u8, id: u64, rule: u8) -> Result<String, Memory>
-    ensures { IfOk result (λ text. string_bytes text ≡ row_line table id rule) }
-{
-    let text = format!(in alloc; "bad row: table {table} id {id} rule {rule}\n")?;
+    let text = format!(in alloc; "bad row: {bad}\n")?;
     Ok(text)
 }
 

@@ -1,17 +1,17 @@
 pub mod AlbumLaws
 pub mod EnergyBounds
-mod GateRows
+mod WorkedGates
 pub mod Greatest
 pub mod LevelLaws
 pub mod LevelTable
 pub mod MeasuredBounds
 pub mod PeakBounds
-pub mod PeakRows
+pub mod WorkedPeaks
 pub mod PeakStretches
 pub mod PlaceLaws
 pub mod RangeLaws
 pub mod SummaryLaws
-pub mod WeightedRows
+pub mod WorkedWeights
 mod WorkedLevels
 mod WorkedRanges
 mod WorkedTexts

@@ -7,7 +7,7 @@ use Rattle.md5.specs.Md5.{md5, block_words, rounds, compress, hash_after, digest
 use Rattle.lib_base.specs.declared.outcomes.Rule.TheVariants.{V}
 use Rattle.lib_base.specs.declared.files.Summary.{Summary}
 use Rattle.file_model.specs.Pcm.{Pcm}
-use Rattle.file_model.proofs.Rows.{four_frames, four_samples, sixteen_bits, four_frames_read}
+use Rattle.file_model.proofs.WorkedWaves.{four_frames, four_samples, sixteen_bits, four_frames_read}
 use Rattle.std.specs.Prelude.{negsuc}
 use Rattle.serde_json.proofs.OnLiterals.{serde_json_on_literals}
 use Rattle.sound_model.specs.Levels.{IsLevel, entry, hundredths}
