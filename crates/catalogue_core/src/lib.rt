@@ -30,8 +30,6 @@ mod settling;
 mod staging;
 mod sweeping;
 mod takes;
-#[cfg(test)]
-mod tests;
 
 pub use asking::ask;
 pub use committing::commit;

@@ -16,8 +16,6 @@ mod measuring;
 mod members;
 mod moving;
 mod opening;
-#[cfg(test)]
-mod opening_tests;
 mod placing;
 mod ranks;
 mod room;

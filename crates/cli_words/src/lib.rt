@@ -7,7 +7,5 @@
 mod applications;
 mod commands;
 mod numbers;
-#[cfg(test)]
-mod tests;
 
 pub use commands::{Command, read_command};

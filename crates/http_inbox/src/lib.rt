@@ -20,6 +20,3 @@ pub use filling::fill;
 pub use heads::{FieldSpan, Heading};
 pub use inbox::{HeadRead, Inbox};
 pub use requests::{Next, Request, next_request};
-
-#[cfg(test)]
-mod tests;

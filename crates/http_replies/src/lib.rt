@@ -5,8 +5,6 @@
 #![tactic(auto)]
 
 mod heads;
-#[cfg(test)]
-mod tests;
 mod writing;
 
 pub use writing::{write_memory, write_reply};

@@ -7,8 +7,6 @@
 mod ids;
 mod resources;
 mod routes;
-#[cfg(test)]
-mod tests;
 
 pub use resources::Resource;
 pub use routes::{Paths, Route};

@@ -8,8 +8,6 @@ mod names;
 mod objects;
 mod replies;
 mod requests;
-#[cfg(test)]
-mod tests;
 
 pub use names::is_name;
 pub use replies::{describe_album, describe_removed, describe_row, refuse, refuse_format};

@@ -13,8 +13,6 @@ mod lookups;
 mod places;
 mod row_tables;
 mod row_types;
-#[cfg(test)]
-mod tests;
 mod vaults;
 
 pub use contents::{Batch, Change, Changes, NextNumbers, Tables};

@@ -7,8 +7,6 @@
 
 mod keeping;
 mod replies;
-#[cfg(test)]
-mod tests;
 mod tokens;
 
 pub use keeping::KeptReplies;

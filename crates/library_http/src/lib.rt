@@ -12,6 +12,3 @@ mod changing;
 mod serving;
 
 pub use serving::{How, SessionEnd, session};
-
-#[cfg(test)]
-mod tests;

@@ -15,8 +15,6 @@ mod names;
 mod recordings;
 mod replies;
 mod segments;
-#[cfg(test)]
-mod tests;
 
 use keeper_store::Tables;
 use lib_base::Memory;

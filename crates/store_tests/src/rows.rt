@@ -2,8 +2,8 @@
 ghost use Rattle.std.specs.Prelude.{◌≡◌, ◌<◌, ℕ};
 ghost use Rattle.catalogue_rows.specs.Room.{puts_one};
 
-use crate::{CatalogueRows, Fresh, NotOpened, open_rows};
 use album_merge::Album;
+use catalogue_rows::{CatalogueRows, Fresh, NotOpened, open_rows};
 use keeper_store::{AlbumRow, Change, RecordingRow, ReplyRow, Rows, SegmentRow, Tables, bytes_of};
 use kept_replies::{Seen, Token};
 use lib_base::{Bytes, Kind, Memory, Steps, Summary, Text};

@@ -1,6 +1,6 @@
 //! Tokens made, and replies looked up under them.
-use crate::{KeptReplies, Seen, Token};
 use keeper_store::ReplyRow;
+use kept_replies::{KeptReplies, Seen, Token};
 use lib_base::{Bytes, Memory, Text};
 use std::alloc::Global;
 use std::test::Fail;

@@ -1,5 +1,5 @@
 //! Targets, the routes that they find, and their methods. Memory is ample here.
-use crate::{Paths, Resource, Route};
+use http_routes::{Paths, Resource, Route};
 use std::test::Fail;
 
 #[test]

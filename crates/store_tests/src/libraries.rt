@@ -5,7 +5,9 @@ ghost use Rattle.library_model.specs.Stands.{BringsWithin, IsWithinLimit};
 ghost use Rattle.measure_pool.specs.declared.plans.TheConstants.{MOST_WORKERS};
 ghost use Rattle.catalogue_core.specs.Kept.{IsFresh};
 
-use crate::{Library, OpenRefusal, Request, Seen, Staged, Token, ask, commit, stage, sweep};
+use catalogue_core::{
+    Library, OpenRefusal, Request, Seen, Staged, Token, ask, commit, stage, sweep,
+};
 use json_bodies::{is_name, refuse};
 use keeper_store::{MemKeeper, MemVault, Tables};
 use lib_base::{Bytes, Memory, Steps, Text};
@@ -22,6 +24,7 @@ use std::thread::Threads;
 /// A library, its keeper and its vault.
 #[derive(Drop)]
 struct Objects {
+    alloc: Global,
     library: Library,
     keeper: MemKeeper,
     vault: MemVault,
@@ -39,6 +42,7 @@ fn open<R: Threads + Sync>(
     let vault = MemVault::new(alloc, [vault].to_vec(alloc)?);
     let library = Library::open(rt, alloc, &mut keeper)?;
     Ok(Objects {
+        alloc,
         library,
         keeper,
         vault,
@@ -117,7 +121,12 @@ fn reply_to_question(objects: &mut Objects, asks: Asks) -> Result<Option<Reply>,
 
 /// What was replied to a token before, or the refusal of one that is another request's; None where it
 /// is fresh.
-fn before(library: &Library, token: &Token, mark: &[u8; 16]) -> Result<Option<Reply>, Memory>
+fn before(
+    alloc: Global,
+    library: &Library,
+    token: &Token,
+    mark: &[u8; 16],
+) -> Result<Option<Reply>, Memory>
     ensures { IfOk result (λ reply. IfNone reply (IsFresh library.now (text_of token.now))) }
 {
     match library.seen(token, mark) {
@@ -125,9 +134,9 @@ fn before(library: &Library, token: &Token, mark: &[u8; 16]) -> Result<Option<Re
         Seen::Kept(kept) => Ok(Some(Reply {
             status: kept.status,
             kind: kept.kind,
-            body: Bytes::copy(library.alloc, kept.body.as_slice())?,
+            body: Bytes::copy(alloc, kept.body.as_slice())?,
         })),
-        Seen::Other => Ok(Some(refuse(library.alloc, Refusal::TokenUsed)?)),
+        Seen::Other => Ok(Some(refuse(alloc, Refusal::TokenUsed)?)),
     }
 }
 
@@ -143,7 +152,7 @@ fn reply_to<R: Threads + Sync, G: Gate>(
     requires { BringsWithin command }
 {
     let mark = [mark; 16];
-    if let Some(reply) = before(&objects.library, &token, &mark)? {
+    if let Some(reply) = before(objects.alloc, &objects.library, &token, &mark)? {
         return Ok(reply);
     }
     let request = Request {
@@ -172,6 +181,7 @@ fn make<R: Threads + Sync, G: Gate, L: Ledger>(
         library,
         keeper,
         vault,
+        ..
     } = objects;
     let mut steps: Steps<L> = Steps::new(blank);
     match stage(rt, library, request, vault, 2, gate, &mut steps)? {
@@ -196,7 +206,7 @@ fn answer<R: Threads + Sync, G: Gate>(
     if let Some(reply) = reply_to_question(objects, asks)? {
         return Ok(Some(reply));
     }
-    let alloc = objects.library.alloc;
+    let alloc = objects.alloc;
     let Some(token) = Token::of(alloc, token.as_bytes())? else {
         return Ok(None);
     };

@@ -1,5 +1,5 @@
 //! The objects in memory, called in turn.
-use crate::{
+use keeper_store::{
     AlbumRow, Batch, Change, Changes, Keeper, MemKeeper, MemVault, RecordingRow, ReplyRow,
     RowFault, Rows, SegmentRow, Tables, Vault, bytes_of, drop_row, energies_of, find_row, put_row,
 };

@@ -1,5 +1,5 @@
 //! What bodies of requests say, and those of replies. Memory is ample here, so no answer is want of it.
-use crate::{describe_album, describe_removed, is_name, read_album, read_name};
+use json_bodies::{describe_album, describe_removed, is_name, read_album, read_name};
 use keeper_store::AlbumRow;
 use lib_base::{Memory, Summary, Text};
 use library_model::Reply;

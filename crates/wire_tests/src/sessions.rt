@@ -3,10 +3,10 @@ ghost use Rattle.std.specs.Prelude.{None};
 ghost use Rattle.std.specs.Io.{ReadsAtMost};
 ghost use Rattle.std.specs.Io.KnownBytes.{ReadConsumes};
 
-use crate::{How, SessionEnd, session};
 use catalogue_core::Library;
 use keeper_store::{MemKeeper, MemVault, Tables};
 use lib_base::{Bytes, Failed, MemSink, MemSource, Outside, Sink, Source};
+use library_http::{How, SessionEnd, session};
 use std::sync::atomic::{AtomicU64, Ordering};
 use std::test::Fail;
 

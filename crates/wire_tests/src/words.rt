@@ -1,5 +1,5 @@
 //! Which words give which command. Memory is ample here, so no answer is want of it.
-use crate::{Command, read_command};
+use cli_words::{Command, read_command};
 use std::alloc::{AllocError, Global};
 use std::test::Fail;
 

@@ -3,7 +3,7 @@ use Rattle.keeper_store.specs.declared.contents.Change.{Change}
 use Rattle.keeper_store.specs.declared.contents.Change.TheVariants.{PutRecording}
 use Rattle.catalogue_rows.specs.Room.{HasRoomFor, one_in}
 use Rattle.catalogue_rows.proofs.Laws.{room_for}
-use Rattle.catalogue_rows.proofs.opening_tests.move_into.Goals as goal
+use Rattle.store_tests.proofs.rows.move_into.Goals as goal
 
 pub make_all-requires : goal.make_all-requires
 make_all-requires g c =

@@ -1,5 +1,5 @@
 //! Replies on a sink, and the sinks that fail.
-use crate::{write_memory, write_reply};
+use http_replies::{write_memory, write_reply};
 use http_routes::Route;
 use lib_base::{Bytes, MemSink, Outside};
 use library_model::{BodyKind, Reply};

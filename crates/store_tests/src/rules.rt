@@ -1,8 +1,8 @@
 //! Tables with a fault, each with the row that is found.
-use crate::first_bad;
 use keeper_store::{AlbumRow, RecordingRow, ReplyRow, Rows, SegmentRow, Tables, bytes_of};
 use lib_base::{Bytes, Kind, Memory, Summary, Text};
 use library_model::{BadRow, RowRule, RowTable};
+use row_rules::first_bad;
 use std::alloc::Global;
 use std::test::Fail;
 

@@ -3,7 +3,7 @@ ghost use Rattle.std.specs.Prelude.{◌≡◌};
 ghost use Rattle.httparse.specs.Grammar.{RequestHead};
 ghost use Rattle.http_inbox.specs.Heads.{IsHeadingOf};
 
-use crate::{HeadRead, Inbox, Next, Request, fill, next_request};
+use http_inbox::{HeadRead, Inbox, Next, Request, fill, next_request};
 use http_model::FramingRefusal;
 use lib_base::{Bytes, Failed, MemSource, ReadEnd, Source};
 use std::alloc::Global;
