@@ -13,8 +13,6 @@ mod members;
 mod ranges;
 mod summaries;
 mod tallies;
-#[cfg(test)]
-mod tests;
 mod trying;
 
 pub use albums::Album;

@@ -9,8 +9,6 @@
 mod checks;
 mod reader;
 mod tables;
-#[cfg(test)]
-mod tests;
 mod windows;
 
 pub use checks::{crc8, crc16};

@@ -6,8 +6,6 @@
 
 mod levels;
 mod table;
-#[cfg(test)]
-mod tests;
 mod texts;
 
 pub use levels::{bucket, hundredths, level};

@@ -9,17 +9,11 @@
 
 mod channels;
 mod frame;
-#[cfg(test)]
-mod frame_tests;
 mod header;
 mod one_channel;
-#[cfg(test)]
-mod one_channel_tests;
 mod residual;
 mod rules;
 mod subframe;
-#[cfg(test)]
-mod tests;
 
 pub use file_model::{Info, Stereo};
 pub use frame::{FrameEnd, GREATEST_BLOCK, channel, read_frame};

@@ -8,8 +8,6 @@
 mod channels;
 mod places;
 mod prediction;
-#[cfg(test)]
-mod tests;
 
 pub use channels::undo_stereo;
 pub use file_model::Stereo;

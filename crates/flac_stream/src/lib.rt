@@ -9,20 +9,12 @@ mod blocks;
 mod decoding;
 mod digest;
 mod ending;
-#[cfg(test)]
-mod file_tests;
 mod files;
 mod frames;
 mod info;
 mod opening;
-#[cfg(test)]
-mod ordinary_tests;
 mod rules;
 mod sound;
-#[cfg(test)]
-mod sound_tests;
-#[cfg(test)]
-mod tests;
 
 pub use blocks::Block;
 pub use decoding::decode;

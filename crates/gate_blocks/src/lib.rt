@@ -10,8 +10,6 @@ mod gates;
 mod levels;
 mod meters;
 mod sums;
-#[cfg(test)]
-mod tests;
 mod weights;
 
 pub use gates::Tally;

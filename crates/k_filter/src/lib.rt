@@ -7,7 +7,5 @@
 mod filters;
 mod rounding;
 mod sections;
-#[cfg(test)]
-mod tests;
 
 pub use filters::Filter;

@@ -16,8 +16,6 @@ mod sinks;
 mod sounds;
 mod sources;
 mod steps;
-#[cfg(test)]
-mod tests;
 mod values;
 
 pub use doors::{Door, MemDoor};

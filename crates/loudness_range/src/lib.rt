@@ -7,8 +7,6 @@
 mod gates;
 mod ranges;
 mod tallies;
-#[cfg(test)]
-mod tests;
 
 pub use ranges::{percentile_place, range};
 pub use tallies::WindowTally;

@@ -8,8 +8,6 @@
 mod any_sound;
 mod comments;
 mod files;
-#[cfg(test)]
-mod tests;
 
 pub use any_sound::AnySound;
 pub use files::{Accepted, accept};

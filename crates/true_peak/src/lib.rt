@@ -9,8 +9,6 @@ mod history;
 mod meters;
 mod ranges;
 mod runs;
-#[cfg(test)]
-mod tests;
 
 pub use meters::PeakMeter;
 pub use ranges::peak_of_range;

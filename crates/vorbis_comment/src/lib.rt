@@ -9,8 +9,6 @@ mod comments;
 mod entries;
 mod parts;
 mod rules;
-#[cfg(test)]
-mod tests;
 mod texts;
 
 pub use comments::{Comments, read};

@@ -15,8 +15,6 @@ mod chunks;
 mod fields;
 mod format;
 mod parts;
-#[cfg(test)]
-mod tests;
 mod wave_sounds;
 mod waves;
 

@@ -1,5 +1,5 @@
 //! Worked levels and texts, and that the texts can be made.
-use super::*;
+use db_table::*;
 use std::test::Fail;
 
 #[test]

@@ -1,9 +1,9 @@
 //! Files of both kinds, accepted and refused.
-use crate::{Accepted, AnySound, accept};
 use file_model::{CommentRule, FlacRule, KindRule, WaveRule};
 use lib_base::{Broken, Refused, Rule, Scratch, Sound};
 use std::alloc::Global;
 use std::test::Fail;
+use tag_writer::{Accepted, AnySound, accept};
 
 /// STREAMINFO of a sound of one channel of 16 bits, and one frame of sixteen samples of 1.
 const FLAC: [u8; 54] = [

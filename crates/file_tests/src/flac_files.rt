@@ -1,6 +1,6 @@
 //! Whole files, read and refused.
-use crate::read;
 use file_model::FlacRule;
+use flac_stream::read;
 use lib_base::{Broken, Refused};
 use std::alloc::Global;
 use std::test::Fail;

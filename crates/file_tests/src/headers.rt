@@ -1,6 +1,6 @@
 //! Headers, read and refused.
-use crate::{Header, Info, Stereo, read_header};
 use file_model::FlacRule;
+use flac_frames::{Header, Info, Stereo, read_header};
 use lib_base::Broken;
 
 /// A file of one channel of 16 bits.

@@ -1,7 +1,7 @@
 //! One channel of a frame.
 ghost use Rattle.std.specs.Prelude.{◌<◌};
 
-use crate::{Info, channel, read_one_channel};
+use flac_frames::{Info, channel, read_one_channel};
 use lib_base::{Memory, Scratch};
 use std::alloc::Global;
 

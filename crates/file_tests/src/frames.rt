@@ -2,8 +2,8 @@
 ghost use Rattle.std.specs.Prelude.{◌≡◌, ◌≤◌, ◌*◌, length};
 ghost use Rattle.flac_frames.specs.declared.frame.TheConstants.{GREATEST_BLOCK};
 
-use crate::{FrameEnd, Info, channel, read_frame};
 use file_model::FlacRule;
+use flac_frames::{FrameEnd, Info, channel, read_frame};
 use lib_base::{Broken, Memory, Scratch};
 use std::alloc::Global;
 

@@ -1,5 +1,5 @@
 //! Worked values: those of the recurrence, worked in whole numbers apart from the program.
-use crate::Filter;
+use k_filter::Filter;
 
 #[test]
 fn one_piece_or_two(rt: HostRuntime) {

@@ -1,5 +1,5 @@
 //! Worked fields and checks.
-use super::*;
+use bit_codec::*;
 
 #[test]
 fn checks_of_a_frame(rt: HostRuntime) {

@@ -1,5 +1,5 @@
 //! Worked rows.
-use crate::{
+use gate_blocks::{
     SegmentMeter, add_weighted, block_level, blocks, loudness, weight, window_level, windows,
 };
 use lib_base::Memory;

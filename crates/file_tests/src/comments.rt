@@ -1,9 +1,9 @@
 //! Blocks, read and refused.
-use crate::{Comments, read};
 use file_model::CommentRule;
 use lib_base::{Broken, Refused};
 use std::alloc::Global;
 use std::test::Fail;
+use vorbis_comment::{Comments, read};
 
 /// The vendor `ab`, and the comments `A=1` and one of no bytes.
 const TWO: [u8; 21] = [

@@ -1,9 +1,9 @@
 //! Worked files.
-use super::*;
 use file_model::WaveRule;
 use lib_base::{Broken, Refused, Scratch, Sound, Span};
 use std::alloc::Global;
 use std::test::Fail;
+use wave_chunks::*;
 
 /// Two frames of one channel, 16 bits: the samples 1 and -2.
 const MONO: [u8; 48] =

@@ -1,5 +1,5 @@
 //! Worked lists, restored and refused.
-use crate::{OutOfDepth, Stereo, restore_fixed, restore_linear, undo_stereo};
+use flac_predict::{OutOfDepth, Stereo, restore_fixed, restore_linear, undo_stereo};
 
 #[test]
 fn a_straight_line(rt: HostRuntime) {

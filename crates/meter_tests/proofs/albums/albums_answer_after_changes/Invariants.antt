@@ -1,4 +1,4 @@
-use Rattle.album_merge.proofs.tests.albums_answer_after_changes.Given as goal
+use Rattle.meter_tests.proofs.albums.albums_answer_after_changes.Given as goal
 
 abbrev pub ghosts-change : goal.ghosts-change
 ghosts-change g a = record { name = a.blank.name; parts = a.blank.parts }

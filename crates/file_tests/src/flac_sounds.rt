@@ -1,5 +1,5 @@
 //! Parts of a sound, decoded from the bytes of its file.
-use crate::{FlacSound, read};
+use flac_stream::{FlacSound, read};
 use lib_base::{Memory, Scratch, Sound};
 use std::alloc::Global;
 use std::test::Fail;

@@ -1,7 +1,7 @@
 //! Worked albums.
 ghost use Rattle.std.specs.Prelude.{◌≡◌, ◌<◌};
 
-use crate::{Album, TrackTally};
+use album_merge::{Album, TrackTally};
 use lib_base::{
     Energies, GREATEST_ENERGY, MOST_SEGMENTS, Measured, SEGMENT_FRAMES, Steps, Summary,
 };

@@ -1,5 +1,5 @@
 //! Worked places and ranges, and that the ranges can be made.
-use super::*;
+use loudness_range::*;
 use std::test::Fail;
 
 #[test]

@@ -1,5 +1,5 @@
 use Rattle.std.proofs.Common.{◌≡◌, false}
-use Rattle.lib_base.proofs.tests.serves_two_connections.Given as goal
+use Rattle.meter_tests.proofs.base.serves_two_connections.Given as goal
 
 -- no connection is out between two turns
 abbrev pub invariant-loop-want : goal.invariant-loop-want

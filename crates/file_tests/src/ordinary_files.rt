@@ -1,6 +1,6 @@
 //! Files of the ordinary encoder (`flac` 1.4.2, in blocks of 16 samples), read and decoded.
-use crate::{decode, read};
 use file_model::FlacRule;
+use flac_stream::{decode, read};
 use lib_base::{Broken, Memory, PcmSound, Refused, Scratch, Sound};
 use std::alloc::Global;
 use std::test::Fail;

@@ -1,6 +1,6 @@
-//! Files up to their first frame, read and refused.
-use crate::opening::read_opening;
+//! What stands before the first frame, read and refused.
 use file_model::FlacRule;
+use flac_stream::read;
 use lib_base::{Broken, Refused};
 use std::alloc::Global;
 use std::test::Fail;
@@ -21,17 +21,17 @@ const THREE: [u8; 50] = [
     0x00, 0x00,
 ];
 
-/// The same, with comments of one byte and then padding.
-const COMMENTED: [u8; 51] = [
+/// The same, with comments of one byte and then padding, and the frame.
+const COMMENTED: [u8; 63] = [
     0x66, 0x4C, 0x61, 0x43, 0x00, 0x00, 0x00, 0x22, 0x00, 0x10, 0x00, 0x10, 0x00, 0x00, 0x00, 0x00,
     0x00, 0x00, 0x0B, 0xB8, 0x00, 0xF0, 0x00, 0x00, 0x00, 0x10, 0x00, 0x00, 0x00, 0x00, 0x00, 0x00,
     0x00, 0x00, 0x00, 0x00, 0x00, 0x00, 0x00, 0x00, 0x00, 0x00, 0x04, 0x00, 0x00, 0x01, 0x09, 0x81,
-    0x00, 0x00, 0x00,
+    0x00, 0x00, 0x00, 0xFF, 0xF8, 0x6A, 0x08, 0x00, 0x0F, 0x0A, 0x00, 0x00, 0x01, 0xBE, 0x85,
 ];
 
-/// What a file is refused with before its first frame, if it is.
+/// What a file is refused with, if it is.
 fn refusal(alloc: Global, bytes: &[u8]) -> Option<Refused> {
-    match read_opening(alloc, bytes) {
+    match read(alloc, bytes) {
         Ok(_) => None,
         Err(refused) => Some(refused),
     }
@@ -87,7 +87,8 @@ fn cut_files(rt: HostRuntime) {
     }
 }
 
-/// Each row: the types of the two blocks behind STREAMINFO, and the refusal.
+/// Each row: the types of the two blocks behind STREAMINFO, and the refusal. In the last two rows
+/// the blocks are right: no frame stands behind them, and none begins behind the first of them.
 #[test]
 fn further_blocks(rt: HostRuntime) {
     let rows = [
@@ -95,8 +96,8 @@ fn further_blocks(rt: HostRuntime) {
         (0x04, 0x84, by_rule(FlacRule::RepeatedBlock, 46)),
         (0x04, 0xFF, by_rule(FlacRule::InvalidBlock, 46)),
         (0x01, 0x01, by_rule(FlacRule::CutBlock, 50)),
-        (0x01, 0xFE, None),
-        (0x81, 0x80, None),
+        (0x01, 0xFE, by_rule(FlacRule::OtherTotal, 21)),
+        (0x81, 0x80, by_rule(FlacRule::LostSync, 46)),
     ];
     for (first, second, answer) in rows {
         let mut bytes = THREE;
@@ -113,15 +114,16 @@ fn further_blocks(rt: HostRuntime) {
 /// What is kept of a file with comments before padding.
 #[test]
 fn blocks_that_are_kept(rt: HostRuntime) -> Result<(), Fail> {
-    let opening = read_opening(rt.alloc(), COMMENTED.as_slice())?;
-    assert!(rt; opening.blocks.items.len() == 3);
-    assert_eq!(rt; opening.blocks.end, 51);
-    assert_eq!(rt; opening.blocks.comments, Some(1));
-    assert_eq!(rt; opening.info.rate, 48_000);
-    assert_eq!(rt; opening.info.channels, 1);
-    assert_eq!(rt; opening.info.depth, 16);
-    assert_eq!(rt; opening.info.total, 16);
-    let comments = opening.blocks.items[1];
+    let file = read(rt.alloc(), COMMENTED.as_slice())?;
+    assert!(rt; file.blocks().len() == 3);
+    assert_eq!(rt; file.sound_start(), 51);
+    assert_eq!(rt; file.comments(), Some(1));
+    let info = file.info();
+    assert_eq!(rt; info.rate, 48_000);
+    assert_eq!(rt; info.channels, 1);
+    assert_eq!(rt; info.depth, 16);
+    assert_eq!(rt; info.total, 16);
+    let comments = file.blocks()[1];
     assert_eq!(rt; comments.kind, 4);
     assert_eq!(rt; comments.content.start, 46);
     assert_eq!(rt; comments.content.end, 47);

@@ -1,7 +1,7 @@
 //! What no clause says: texts, worked values, and that the calls can succeed.
 ghost use Rattle.std.specs.Prelude.{◌≡◌, false, length};
 
-use crate::{
+use lib_base::{
     Bytes, Door, Failed, Kind, MemDoor, MemSink, MemSource, Memory, Outside, PcmSound, ReadEnd,
     Rule, Scratch, Sink, Sound, Source, kind_of, read_up_to, write_all,
 };

@@ -1,7 +1,7 @@
 //! Worked values: those of the definition, worked in whole numbers apart from the program.
-use crate::{PeakMeter, peak_of_range};
 use lib_base::{PcmSound, Scratch};
 use std::test::Fail;
+use true_peak::{PeakMeter, peak_of_range};
 
 #[test]
 fn one_and_two_samples(rt: HostRuntime) {
