@@ -7,11 +7,11 @@
 #![tactic(auto)]
 
 ghost use Rattle.std.specs.Prelude.{◌≤◌};
-ghost use Rattle.measure_pool.specs.declared.plans.TheConstants.{MOST_WORKERS};
+ghost use Rattle.lib_base.specs.declared.limits.TheConstants.{MOST_WORKERS};
 
 use anyhow::{Result, bail};
-use lib_base::{Measured, Refused};
-use measure_pool::{MOST_WORKERS, OpenGate, measure};
+use lib_base::{MOST_WORKERS, Measured, Refused};
+use measure_pool::{OpenGate, measure};
 use std::alloc::Global;
 use std::marker::Sync;
 use std::thread::Threads;

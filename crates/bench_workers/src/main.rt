@@ -8,8 +8,8 @@ ghost use Rattle.std.specs.Prelude.{◌≡◌, ◌<◌, ◌^◌, ◌⊎◌, IfOk
 ghost use Rattle.lib_base.specs.Sounds.{IsSample};
 
 use anyhow::bail;
-use lib_base::{Measured, Memory, PcmSound};
-use measure_pool::{MOST_WORKERS, OpenGate, measure};
+use lib_base::{MOST_WORKERS, Measured, Memory, PcmSound};
+use measure_pool::{OpenGate, measure};
 use std::alloc::Global;
 use std::env;
 

@@ -1,5 +1,6 @@
 //! New albums, and albums that are removed.
 ghost use Rattle.std.specs.Prelude.{◌≡◌, ◌∷◌, [], false, nat_le, None, IfOk};
+ghost use Rattle.lib_base.specs.declared.limits.TheConstants.{NUMBERS_END};
 ghost use Rattle.keeper_store.specs.declared.contents.Change.TheVariants as change;
 ghost use Rattle.library_model.specs.declared.messages.Command.TheVariants as wanted;
 ghost use Rattle.library_model.specs.Batches.{new_album_changes, new_album_row};
@@ -10,13 +11,13 @@ ghost use Rattle.catalogue_core.specs.Plans.{DecidesOn, IsPlan, Leaves};
 
 use crate::Library;
 use crate::looking::{has_members, is_there};
-use crate::plans::{Decision, MOST_CHANGES, NUMBERS_END, Plan};
+use crate::plans::{Decision, MOST_CHANGES, Plan};
 use crate::refusing::refused;
 use album_merge::Album;
 use catalogue_rows::Fresh;
 use json_bodies::{describe_album, describe_removed};
 use keeper_store::{AlbumRow, Change, NextNumbers};
-use lib_base::{Memory, Summary, Text};
+use lib_base::{Memory, NUMBERS_END, Summary, Text};
 use library_model::Refusal;
 use std::alloc::Global;
 

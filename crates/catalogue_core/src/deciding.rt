@@ -1,7 +1,7 @@
 //! What is decided of a command.
 ghost use Rattle.std.specs.Prelude.{◌≤◌};
+ghost use Rattle.lib_base.specs.declared.limits.TheConstants.{MOST_WORKERS};
 ghost use Rattle.library_model.specs.Stands.{BringsWithin};
-ghost use Rattle.measure_pool.specs.declared.plans.TheConstants.{MOST_WORKERS};
 ghost use Rattle.catalogue_core.specs.Plans.{DecidesOn, Leaves};
 
 use crate::Library;

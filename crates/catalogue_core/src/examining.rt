@@ -1,9 +1,9 @@
 //! What a file is, and what is measured of it.
 ghost use Rattle.std.specs.Prelude.{◌≡◌, ◌≤◌, IfOk};
+ghost use Rattle.lib_base.specs.declared.limits.TheConstants.{MOST_WORKERS};
 ghost use Rattle.file_model.specs.Files.{Reads};
 ghost use Rattle.file_model.specs.Pcm.{Pcm};
 ghost use Rattle.file_model.specs.Reading.{accepted as reads_as};
-ghost use Rattle.measure_pool.specs.declared.plans.TheConstants.{MOST_WORKERS};
 ghost use Rattle.tag_writer.specs.Answers.{IsAcceptedOf};
 ghost use Rattle.library_model.specs.Findings.{measured_of};
 ghost use Rattle.library_model.specs.Stands.{IsWithinLimit};

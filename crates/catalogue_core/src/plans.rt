@@ -5,9 +5,6 @@ use catalogue_rows::Fresh;
 use keeper_store::Change;
 use library_model::Reply;
 
-/// The number from which on none is given to an album, a recording or a take.
-pub(crate) const NUMBERS_END: u32 = 2_147_483_647;
-
 /// The changes that a batch has at most: those of a new take of a recording in an album.
 pub(crate) const MOST_CHANGES: usize = 6;
 

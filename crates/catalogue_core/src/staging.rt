@@ -1,9 +1,9 @@
 //! Deciding a request, and taking all that accepting it wants.
 ghost use Rattle.std.specs.Prelude.{◌≤◌, IfOk};
+ghost use Rattle.lib_base.specs.declared.limits.TheConstants.{MOST_WORKERS};
 ghost use Rattle.kept_replies.specs.Tokens.{text_of};
 ghost use Rattle.library_model.specs.State.{State};
 ghost use Rattle.library_model.specs.Stands.{BringsWithin};
-ghost use Rattle.measure_pool.specs.declared.plans.TheConstants.{MOST_WORKERS};
 ghost use Rattle.catalogue_core.specs.Causes.{StagesBy};
 ghost use Rattle.catalogue_core.specs.Kept.{IsFresh, Keeps};
 ghost use Rattle.catalogue_core.specs.Requests.{asked_by};

@@ -1,8 +1,8 @@
 //! The library over a keeper and a vault in memory.
 ghost use Rattle.std.specs.Prelude.{◌≡◌, ◌≤◌, ◌<◌, IfNone, IfOk, IfSome};
+ghost use Rattle.lib_base.specs.declared.limits.TheConstants.{MOST_WORKERS};
 ghost use Rattle.kept_replies.specs.Tokens.{text_of};
 ghost use Rattle.library_model.specs.Stands.{BringsWithin, IsWithinLimit};
-ghost use Rattle.measure_pool.specs.declared.plans.TheConstants.{MOST_WORKERS};
 ghost use Rattle.catalogue_core.specs.Kept.{IsFresh};
 
 use crate::{Library, OpenRefusal, Request, Seen, Staged, Token, ask, commit, stage, sweep};

@@ -1,11 +1,12 @@
 -- The numbers of commands are those that they may have.
 use Rattle.std.proofs.Common.{◌≡◌, ◌≤◌, ◌&&◌, ◌-◌, ◌^◌, ℕ, Bool, true, false, Option, None, Some, IfSome, List, refl, rules, arith, nat_le, if◌then◌else◌, codes, option_map, option_and_then}
 use Rattle.clap.specs.Words.{Row, first_of, matches_of}
+use Rattle.lib_base.specs.declared.limits.TheConstants.{MOST_WORKERS}
 use Rattle.cli_words.specs.Numbers.{number_read, number_of, number_or}
 use Rattle.cli_words.specs.Commands.{workers_in, requests_in, connections_in, session_in, serve_in, session_by, serve_by, command_named, session_app, serve_app, IsWithin}
 use Rattle.cli_words.specs.declared.commands.Command.{Command}
 use Rattle.cli_words.specs.declared.commands.Command.TheVariants.{Session, Serve}
-use Rattle.cli_words.specs.declared.commands.TheConstants.{MOST_WORKERS, WORKERS, REQUESTS, MOST_CONNECTIONS}
+use Rattle.cli_words.specs.declared.commands.TheConstants.{WORKERS, REQUESTS, MOST_CONNECTIONS}
 
 -- a number from 1 to `most`
 abbrev IsUpTo : ℕ → ℕ → Type 0

@@ -3,10 +3,11 @@ use Rattle.std.specs.Prelude.{◌≡◌, ◌==◌, ◌&&◌, ◌||◌, ◌≤◌
 use Rattle.std.specs.List.{list_all}
 use Rattle.std.specs.Str.{bytes_eq}
 use Rattle.clap.specs.Words.{App, Row, Rule, Kinds, fault_of, first_of, matches_of, new_app, new_rule, with_rule}
+use Rattle.lib_base.specs.declared.limits.TheConstants.{MOST_WORKERS}
 use Rattle.cli_words.specs.Numbers.{number_of, number_or}
 use Rattle.cli_words.specs.declared.commands.Command.{Command}
 use Rattle.cli_words.specs.declared.commands.Command.TheVariants.{Session, Serve}
-use Rattle.cli_words.specs.declared.commands.TheConstants.{MOST_WORDS, MOST_WORKERS, WORKERS, REQUESTS, MOST_CONNECTIONS}
+use Rattle.cli_words.specs.declared.commands.TheConstants.{MOST_WORDS, WORKERS, REQUESTS, MOST_CONNECTIONS}
 
 -- ---- what `clap` reads
 

@@ -8,15 +8,13 @@ ghost use Rattle.clap.specs.Words.{first_of, found_of, rows_of};
 use crate::applications::{read_matches, serve_application, session_application};
 use crate::numbers::{number_of, number_or};
 use clap::ArgMatches;
-use lib_base::Memory;
+use lib_base::{MOST_WORKERS, Memory};
 use std::alloc::Global;
 
 /// How many words a command has at most.
 const MOST_WORDS: usize = 8;
 
-/// How many workers measure a sound at most, and how many do where the words say nothing.
-const MOST_WORKERS: u32 = 64;
-
+/// How many workers measure a sound where the words say nothing.
 const WORKERS: u32 = 4;
 
 /// How many requests a session answers at most where the words say nothing.

@@ -24,8 +24,8 @@ pub use doors::{Door, MemDoor};
 pub use files::{Kind, Measured, Span, Summary, content_of, kind_of};
 pub use limits::{
     BLOCK_SEGMENTS, FULL_POWER, GREATEST_DEPTH, GREATEST_ENERGY, GREATEST_PEAK, LEAST_DEPTH,
-    MOST_CHANNELS, MOST_MEMBERS, MOST_SAMPLES, MOST_SEGMENTS, NUMBERS_END, PEAK_REACH, SAMPLE_RATE,
-    SEGMENT_FRAMES, WINDOW_SEGMENTS,
+    MOST_CHANNELS, MOST_MEMBERS, MOST_SAMPLES, MOST_SEGMENTS, MOST_WORKERS, NUMBERS_END,
+    PEAK_REACH, SAMPLE_RATE, SEGMENT_FRAMES, WINDOW_SEGMENTS,
 };
 pub use outcomes::{Broken, Failed, Memory, Outside, Refused, Rule};
 pub use plans::FaultPlan;

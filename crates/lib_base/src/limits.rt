@@ -48,6 +48,9 @@ pub const GREATEST_PEAK: u64 = 16_571 << 23;
 /// How many recordings an album has at most.
 pub const MOST_MEMBERS: u64 = 256;
 
+/// How many workers measure a sound at most.
+pub const MOST_WORKERS: u32 = 64;
+
 /// The end of the numbers that are given out: each id and each take is below it, and a counter that
 /// stands at it gives none.
 pub const NUMBERS_END: u32 = 2_147_483_647;

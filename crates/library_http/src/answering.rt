@@ -1,6 +1,7 @@
 //! One request, its reply, and the writing of it.
 ghost use Rattle.std.specs.Prelude.{◌≡◌, ◌≤◌};
 ghost use Rattle.lib_base.specs.Writes.{WritesAll};
+ghost use Rattle.lib_base.specs.declared.limits.TheConstants.{MOST_WORKERS};
 ghost use Rattle.library_model.specs.Stands.{IsWithinLimit};
 ghost use Rattle.library_model.specs.State.{State};
 ghost use Rattle.http_routes.specs.Routes.{methods_if};
@@ -11,7 +12,6 @@ ghost use Rattle.http_model.specs.Exchanges.{allows_in};
 ghost use Rattle.http_model.specs.Requests.{Framed};
 ghost use Rattle.http_model.specs.Spelling.{spelled};
 ghost use Rattle.catalogue_core.specs.Kept.{Keeps};
-ghost use Rattle.measure_pool.specs.declared.plans.TheConstants.{MOST_WORKERS};
 ghost use Rattle.library_http.specs.Acts.{Acts};
 ghost use Rattle.library_http.specs.Turns.{allowed_in, reply_given};
 ghost use Rattle.library_http.specs.World.{KeepsFaults, world};

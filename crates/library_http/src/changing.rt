@@ -1,5 +1,6 @@
 //! Changes: seen, wanted, staged, committed and swept.
 ghost use Rattle.std.specs.Prelude.{◌≡◌, ◌≤◌, None, IfOk, IfNone, IfSome};
+ghost use Rattle.lib_base.specs.declared.limits.TheConstants.{MOST_WORKERS};
 ghost use Rattle.http_inbox.specs.Heads.{IsHeadingOf};
 ghost use Rattle.kept_replies.specs.Tokens.{text_of};
 ghost use Rattle.library_model.specs.Asked as asked;
@@ -13,7 +14,6 @@ ghost use Rattle.http_model.specs.Requests.{Framed};
 ghost use Rattle.catalogue_core.specs.Committing.{Fits};
 ghost use Rattle.catalogue_core.specs.Kept.{IsFresh, Keeps};
 ghost use Rattle.catalogue_core.specs.Requests.{asked_by};
-ghost use Rattle.measure_pool.specs.declared.plans.TheConstants.{MOST_WORKERS};
 ghost use Rattle.library_http.specs.Acts.{Acts};
 ghost use Rattle.library_http.specs.Turns.{Settled, reply_given};
 ghost use Rattle.library_http.specs.World.{KeepsFaults, world};

@@ -2,13 +2,13 @@
 ghost use Rattle.std.specs.Prelude.{◌≡◌, ◌≢◌, ◌≤◌, ◌<◌, ℕ, []};
 ghost use Rattle.httparse.specs.Grammar.{RequestHead};
 ghost use Rattle.lib_base.specs.Faults.{CountsFault};
+ghost use Rattle.lib_base.specs.declared.limits.TheConstants.{MOST_WORKERS};
 ghost use Rattle.library_model.specs.Stands.{IsWithinLimit};
 ghost use Rattle.library_model.specs.State.{State};
 ghost use Rattle.http_inbox.specs.Heads.{IsHeadingOf};
 ghost use Rattle.http_inbox.specs.Nexts.{behind, framed};
 ghost use Rattle.http_asking.specs.Asked.{HasHeading};
 ghost use Rattle.catalogue_core.specs.Kept.{Keeps};
-ghost use Rattle.measure_pool.specs.declared.plans.TheConstants.{MOST_WORKERS};
 ghost use Rattle.library_http.specs.Framings.{IsFramed};
 ghost use Rattle.library_http.specs.Sessions.{Session, CountsFaults};
 ghost use Rattle.library_http.specs.Turns as turns;

@@ -18,4 +18,3 @@ mod tests;
 
 pub use gates::{Gate, OpenGate};
 pub use measuring::measure;
-pub use plans::MOST_WORKERS;

@@ -1,11 +1,10 @@
 //! What is measured of a sound.
 ghost use Rattle.std.specs.Prelude.{◌≡◌, ◌≤◌, length, IfOk};
 ghost use Rattle.lib_base.specs.Sounds.{IsSound};
-ghost use Rattle.lib_base.specs.declared.limits.TheConstants.{MOST_SAMPLES};
+ghost use Rattle.lib_base.specs.declared.limits.TheConstants.{MOST_SAMPLES, MOST_WORKERS};
 ghost use Rattle.sound_model.specs.Summaries.{measured, IsWithinBounds};
 ghost use Rattle.measure_pool.specs.Jobs.{AreGathered};
 ghost use Rattle.measure_pool.specs.Plans.{IsPlanOf, jobs_of};
-ghost use Rattle.measure_pool.specs.declared.plans.TheConstants.{MOST_WORKERS};
 
 use crate::found::zeros;
 use crate::gates::Gate;

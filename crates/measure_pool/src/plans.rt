@@ -1,12 +1,9 @@
 //! How the measuring of a sound is cut into jobs.
 ghost use Rattle.std.specs.Prelude.{◌≡◌, ◌≤◌, ◌<◌, ◌-◌, ◌*◌, ◌^◌, length};
 ghost use Rattle.lib_base.specs.Sounds.{IsSound};
-ghost use Rattle.lib_base.specs.declared.limits.TheConstants.{MOST_CHANNELS};
+ghost use Rattle.lib_base.specs.declared.limits.TheConstants.{MOST_CHANNELS, MOST_WORKERS};
 
-use lib_base::{PEAK_REACH, SAMPLE_RATE, Sound};
-
-/// How many workers a sound is measured by at most.
-pub const MOST_WORKERS: u32 = 64;
+use lib_base::{MOST_WORKERS, PEAK_REACH, SAMPLE_RATE, Sound};
 
 /// How many places a stretch has at least. The eleven before it, which it reads again, then count
 /// little, even where they stand in a frame of a few thousand samples that is decoded again for them.
@@ -52,7 +49,7 @@ pub struct Plan {
     ghost some: { 0 < stretches },
     ghost covers: { end ≤ stretches * size },
     ghost few: { channels ≤ MOST_CHANNELS },
-    ghost few_stretches: { stretches ≤ 64 },
+    ghost few_stretches: { stretches ≤ MOST_WORKERS },
 }
 
 impl Plan {
@@ -67,7 +64,7 @@ impl Plan {
     pub fn of<S: Sound>(sound: &S, workers: usize) -> Plan
         requires sound { IsSound (S.lists sound.now) (S.depth sound.now) (S.frames sound.now) }
         requires some { 1 ≤ workers }
-        requires most { workers ≤ 64 }
+        requires most { workers ≤ MOST_WORKERS }
         ensures { IsPlanOf result (length (S.lists sound.now)) (S.frames sound.now) }
     {
         let channels = sound.channels();
@@ -91,7 +88,7 @@ impl Plan {
         requires whole { whole ≤ channels }
         requires end { end < 2 ^ 63 }
         requires some { 1 ≤ stretches }
-        requires few { stretches ≤ 64 }
+        requires few { stretches ≤ MOST_WORKERS }
         ensures channels { result.channels ≡ channels }
         ensures end { result.end ≡ end }
     {
@@ -151,11 +148,13 @@ impl Plan {
 /// How many stretches each of so many channels has, of so many places, for more workers than channels.
 fn stretches_for(channels: usize, workers: usize, end: u64) -> usize
     requires some { 1 ≤ channels }
-    requires most { workers ≤ 64 }
+    requires most { workers ≤ MOST_WORKERS }
     ensures some { 1 ≤ result }
-    ensures few { result ≤ 64 }
+    ensures few { result ≤ MOST_WORKERS }
 {
     let calls = if workers / channels < 2 { 2 } else { 1 };
     let wanted = (calls * workers / channels).saturating_sub(1);
-    wanted.min((end / LEAST_STRETCH) as usize).clamp(1, 64)
+    wanted
+        .min((end / LEAST_STRETCH) as usize)
+        .clamp(1, MOST_WORKERS as usize)
 }

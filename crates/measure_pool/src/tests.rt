@@ -2,6 +2,7 @@
 //! energies and peaks from the definition.
 ghost use Rattle.std.specs.Prelude.{◌≡◌, ◌≤◌, ◌<◌, ◌^◌, IfOk, All, length, vec_len};
 ghost use Rattle.lib_base.specs.Sounds.{IsSample};
+ghost use Rattle.lib_base.specs.declared.limits.TheConstants.{MOST_WORKERS};
 
 use crate::plans::{Job, Plan};
 use crate::{Gate, OpenGate, measure};
@@ -173,7 +174,7 @@ fn sounds_are_measured(rt: HostRuntime) -> Result<(), Fail> {
 /// stretches there are, where so many workers measure a sound.
 fn shares(sound: &PcmSound, workers: usize) -> (u32, u32, u32)
     requires some { 1 ≤ workers }
-    requires most { workers ≤ 64 }
+    requires most { workers ≤ MOST_WORKERS }
 {
     let plan = Plan::of(sound, workers);
     let mut shares = (0u32, 0u32, 0u32);

@@ -2,6 +2,7 @@
 ghost use Rattle.std.specs.Prelude.{◌≡◌, ◌≤◌, ◌+◌, List, [], ◌∷◌, length, false, Ok, Err, IfOk, OnErr, IsErrOf};
 ghost use Rattle.std.specs.Io.KnownBytes.{Appends};
 ghost use Rattle.lib_base.specs.Faults.{CountsFault};
+ghost use Rattle.lib_base.specs.declared.limits.TheConstants.{MOST_WORKERS};
 ghost use Rattle.lib_base.specs.declared.outcomes.Outside.TheVariants as outside;
 ghost use Rattle.report_cli.specs.Connections.{Connection, Serves, HandsBack, EndsWith, TurnWrites, lines_from};
 ghost use Rattle.library_http.specs.World.{World, world};
@@ -31,7 +32,7 @@ pub(crate) fn serve<R: Threads + Sync, K: Sink, D: Keeper, V: Vault, O: Door>(
 ) -> Status
     requires none_out { (O.shown door.old).is_out ≡ false }
     requires some { 1 ≤ workers }
-    requires most { workers ≤ 64 }
+    requires most { workers ≤ MOST_WORKERS }
     ensures serves { (served : List Connection) × Serves requests served (O.shown door.old) (O.shown door.new)
         (world library.old (D.shown keeper.old) (V.shown vault.old)) (world library.new (D.shown keeper.new) (V.shown vault.new))
         × EndsWith result connections served (K.shown sink.old).written (K.shown sink.new).written }
@@ -74,7 +75,7 @@ fn serve_next<R: Threads + Sync, K: Sink, D: Keeper, V: Vault, O: Door>(
 ) -> Result<(), Status>
     requires none_out { (O.shown door.old).is_out ≡ false }
     requires some { 1 ≤ workers }
-    requires most { workers ≤ 64 }
+    requires most { workers ≤ MOST_WORKERS }
     ensures serves { (served : List Connection) × Serves requests served (O.shown door.old) (O.shown door.new)
         (world library.old (D.shown keeper.old) (V.shown vault.old)) (world library.new (D.shown keeper.new) (V.shown vault.new))
         × TurnWrites number result served (K.shown sink.old).written (K.shown sink.new).written }
@@ -105,7 +106,7 @@ fn serve_connection<R: Threads + Sync, D: Keeper, V: Vault, O: Door>(
 ) -> Result<SessionEnd, Outside>
     requires none_out { (O.shown door.old).is_out ≡ false }
     requires some { 1 ≤ workers }
-    requires most { workers ≤ 64 }
+    requires most { workers ≤ MOST_WORKERS }
     ensures served { IfOk result (λ end. (c : Connection) × (c.how ≡ end.how) × (c.answered ≡ end.answered)
         × Serves requests (c ∷ []) (O.shown door.old) (O.shown door.new)
         (world library.old (D.shown keeper.old) (V.shown vault.old)) (world library.new (D.shown keeper.new) (V.shown vault.new))) }
