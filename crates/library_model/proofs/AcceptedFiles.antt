@@ -6,7 +6,7 @@ use Rattle.lib_base.specs.Kinds.{kind_named}
 use Rattle.lib_base.specs.Sounds.{IsSound}
 use Rattle.lib_base.specs.declared.files.Kind.{Kind}
 use Rattle.lib_base.specs.declared.files.Kind.TheVariants.{Wave, Flac}
-use Rattle.lib_base.specs.declared.limits.TheConstants.{MOST_SAMPLES}
+use Rattle.lib_base.specs.declared.limits.TheConstants.{LEAST_DEPTH, GREATEST_DEPTH, MOST_SAMPLES}
 use Rattle.file_model.specs.Files.{Reads, ReadsAs}
 use Rattle.file_model.specs.FlacFile.{IsFlac}
 use Rattle.file_model.specs.Pcm.{Pcm}
@@ -33,10 +33,10 @@ wave_depth depth known = elim known [
 ]
 
 -- FLAC files have 4 to 24
-flac_depth : (depth : ℕ) → 4 ≤ depth → depth ≤ 24 → is_depth Flac depth ≡ true
+flac_depth : (depth : ℕ) → LEAST_DEPTH ≤ depth → depth ≤ GREATEST_DEPTH → is_depth Flac depth ≡ true
 flac_depth depth low high =
-    let least : nat_le 4 depth ≡ true = grind (arith, nat_tests) in
-    let greatest : nat_le depth 24 ≡ true = grind (arith, nat_tests) in
+    let least : nat_le LEAST_DEPTH depth ≡ true = grind (arith, nat_tests) in
+    let greatest : nat_le depth GREATEST_DEPTH ≡ true = grind (arith, nat_tests) in
     rw (least, greatest) refl
 
 of_wave : (file : List ℕ) (sound : Pcm) → IsWave file sound → HasSound Wave file sound

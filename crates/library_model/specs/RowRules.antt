@@ -8,7 +8,7 @@ use Rattle.std.specs.Ordering.{nat_cmp, is_lt}
 use Rattle.lib_base.specs.declared.files.Kind.{Kind}
 use Rattle.lib_base.specs.declared.files.Kind.TheVariants.{Wave, Flac}
 use Rattle.lib_base.specs.declared.files.Measured.{Measured}
-use Rattle.lib_base.specs.declared.limits.TheConstants.{MOST_CHANNELS, GREATEST_ENERGY, MOST_SAMPLES, GREATEST_PEAK, NUMBERS_END, MOST_MEMBERS, SEGMENT_FRAMES}
+use Rattle.lib_base.specs.declared.limits.TheConstants.{MOST_CHANNELS, LEAST_DEPTH, GREATEST_DEPTH, GREATEST_ENERGY, MOST_SAMPLES, GREATEST_PEAK, NUMBERS_END, MOST_MEMBERS, SEGMENT_FRAMES}
 use Rattle.keeper_store.specs.declared.contents.Tables.{Tables}
 use Rattle.keeper_store.specs.declared.row_types.AlbumRow.{AlbumRow}
 use Rattle.keeper_store.specs.declared.row_types.RecordingRow.{RecordingRow}
@@ -70,7 +70,7 @@ album_rule next before members row =
 -- the bits of a sample that files of a kind can have
 abbrev pub is_depth : Kind → ℕ → Bool
 is_depth Wave depth = depth == 16 || depth == 24
-is_depth Flac depth = nat_le 4 depth && nat_le depth 24
+is_depth Flac depth = nat_le LEAST_DEPTH depth && nat_le depth GREATEST_DEPTH
 
 -- channels, depth, frames and peak are within their ranges
 abbrev pub is_sound : RecordingRow → Bool

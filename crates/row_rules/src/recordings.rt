@@ -9,7 +9,9 @@ use crate::counters::is_placed;
 use crate::lookups::{album_ids, album_is_there, segment_takes};
 use crate::names::is_name;
 use keeper_store::{RecordingRow, Tables};
-use lib_base::{GREATEST_PEAK, Kind, MOST_CHANNELS, MOST_SAMPLES, Memory};
+use lib_base::{
+    GREATEST_DEPTH, GREATEST_PEAK, Kind, LEAST_DEPTH, MOST_CHANNELS, MOST_SAMPLES, Memory,
+};
 use library_model::{BadRow, RowRule, RowTable};
 use std::alloc::Global;
 use std::collections::BTreeSet;
@@ -105,6 +107,6 @@ fn is_depth(kind: Kind, depth: u8) -> bool
 {
     match kind {
         Kind::Wave => depth == 16 || depth == 24,
-        Kind::Flac => 4 <= depth && depth <= 24,
+        Kind::Flac => LEAST_DEPTH <= u32::from(depth) && u32::from(depth) <= GREATEST_DEPTH,
     }
 }
