@@ -4,14 +4,15 @@ use Rattle.std.specs.Char.{is_ascii_digit}
 use Rattle.std.specs.Str.{all_ascii_digits}
 use Rattle.std.specs.Str.Parse.{digits_value_after}
 use Rattle.std.proofs.lemmas.Grind.{common_steps}
+use Rattle.http_model.specs.declared.limits.TheConstants.{MOST_SIZE_DIGITS}
 use Rattle.http_inbox.specs.Extents.{size_written}
 
 -- the number of the digits behind those of a number
 abbrev pub read_on : ℕ → List ℕ → Option ℕ
 read_on number digits = if all_ascii_digits digits then Some (digits_value_after 10 number digits) else None
 
--- One to 18 bytes write what reading them gives.
-pub size_written-read : (digits : List ℕ) → 1 ≤ length digits → length digits ≤ 18 → size_written digits ≡ read_on 0 digits
+-- One byte to as many as a length may have write what reading them gives.
+pub size_written-read : (digits : List ℕ) → 1 ≤ length digits → length digits ≤ MOST_SIZE_DIGITS → size_written digits ≡ read_on 0 digits
 size_written-read digits some few = grind (arith, common_steps)
 
 -- A digit adds a place.

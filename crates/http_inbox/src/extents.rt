@@ -7,12 +7,8 @@ ghost use Rattle.http_inbox.specs.Extents.{extent_said, size_written};
 
 use crate::heads::{FieldSpan, Heading};
 use http_model::FramingRefusal;
-
-/// The greatest length of a body, in bytes.
-const BODY_LIMIT: usize = 268_435_456;
-
-/// The greatest number of digits of a `Content-Length`.
-const DIGIT_LIMIT: usize = 18;
+use http_model::limits::MOST_SIZE_DIGITS;
+use library_model::limits::MOST_BODY_BYTES;
 
 /// What follows a head.
 #[derive(Clone, Copy, Debug, PartialEq, Eq)]
@@ -75,7 +71,7 @@ fn written_size(digits: &[u8]) -> BodySize
 fn limited(size: usize) -> BodySize
     ensures { extent_said result ≡ limited_by size }
 {
-    if size <= BODY_LIMIT {
+    if size as u64 <= MOST_BODY_BYTES {
         BodySize::Long(size)
     } else {
         BodySize::Refused(FramingRefusal::Size)
@@ -86,7 +82,7 @@ fn limited(size: usize) -> BodySize
 fn size_of(digits: &[u8]) -> Option<usize>
     ensures { result ≡ size_written digits.now }
 {
-    if digits.is_empty() || digits.len() > DIGIT_LIMIT {
+    if digits.is_empty() || digits.len() > MOST_SIZE_DIGITS {
         return None;
     }
     let mut number = 0;

@@ -6,14 +6,9 @@ ghost use Rattle.http_model.specs.Fields.{is_named, values_of};
 ghost use Rattle.http_model.specs.Requests.{head_limit, field_limit, HasNoHead};
 ghost use Rattle.http_inbox.specs.Heads.{IsFieldSpan, GivesFields, IsParsed, Looks};
 
+use http_model::limits::{MOST_FIELDS, MOST_HEAD_BYTES};
 use httparse::Status;
 use httparse::spans::{EMPTY_HEADER_SPAN, HeaderSpan, RequestSpans, Span, parse_request};
-
-/// The greatest length of a head, in bytes.
-pub(crate) const HEAD_LIMIT: usize = 8192;
-
-/// The greatest number of header lines.
-const FIELD_LIMIT: usize = 32;
 
 /// Where the values of the header lines of a name lie.
 #[derive(Clone, Copy)]
@@ -71,7 +66,7 @@ pub(crate) fn look_at(bytes: &[u8]) -> Look
     if bytes.is_empty() {
         return Look::Open;
     }
-    let mut headers = [EMPTY_HEADER_SPAN; FIELD_LIMIT];
+    let mut headers = [EMPTY_HEADER_SPAN; MOST_FIELDS];
     look_in(bytes, &mut headers)
 }
 
@@ -98,7 +93,7 @@ fn open_or_full(bytes: &[u8]) -> Look
     requires none { HasNoHead bytes.now }
     ensures { Looks bytes.now result }
 {
-    if bytes.len() < HEAD_LIMIT {
+    if bytes.len() < MOST_HEAD_BYTES {
         Look::Open
     } else {
         Look::Never

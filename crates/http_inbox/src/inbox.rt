@@ -4,7 +4,8 @@ ghost use Rattle.http_model.specs.Requests.{HasNoHead, head_limit};
 ghost use Rattle.http_inbox.specs.Inboxes.{DrawsPiece, FindsAtEnd, ReadsHead, TriesHead};
 
 use crate::filling::{read_behind, zeros};
-use crate::heads::{HEAD_LIMIT, Heading, Look, look_at};
+use crate::heads::{Heading, Look, look_at};
+use http_model::limits::MOST_HEAD_BYTES;
 use lib_base::{Failed, Memory, Source};
 use std::alloc::Global;
 use std::marker::Model;
@@ -48,7 +49,7 @@ impl Inbox {
         ensures { IfOk result (λ inbox. inbox ≡ []) }
     {
         Ok(Inbox {
-            room: zeros(alloc, HEAD_LIMIT)?,
+            room: zeros(alloc, MOST_HEAD_BYTES)?,
             count: 0,
         })
     }

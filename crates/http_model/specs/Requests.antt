@@ -7,6 +7,7 @@ use Rattle.httparse.specs.Grammar.{RequestHead, ReadsRequest, print_request}
 use Rattle.httparse.specs.Spans.{name_and_value}
 use Rattle.library_model.specs.declared.limits.TheConstants.{MOST_BODY_BYTES}
 use Rattle.library_model.specs.declared.messages.Reply.{Reply}
+use Rattle.http_model.specs.declared.limits.TheConstants.{MOST_HEAD_BYTES, MOST_FIELDS, MOST_SIZE_DIGITS}
 use Rattle.http_model.specs.declared.refusals.FramingRefusal.{FramingRefusal}
 use Rattle.http_model.specs.declared.refusals.FramingRefusal.TheVariants.{Frame, Length, Size}
 use Rattle.http_model.specs.Fields.{is_named, values_of}
@@ -14,11 +15,11 @@ use Rattle.http_model.specs.Refusals.{framing_refusal}
 
 -- the greatest length of a head, in bytes
 unfoldable pub head_limit : ℕ
-head_limit = 8192
+head_limit = MOST_HEAD_BYTES
 
 -- the greatest number of header lines
 unfoldable pub field_limit : ℕ
-field_limit = 32
+field_limit = MOST_FIELDS
 
 -- the greatest length of a body, in bytes
 unfoldable pub body_limit : ℕ
@@ -50,7 +51,7 @@ pub data Extent : Type 0 where
 
 -- one to 18 digits
 abbrev pub is_size : List ℕ → Bool
-is_size digits = nat_le 1 (length digits) && nat_le (length digits) 18 && all_ascii_digits digits
+is_size digits = nat_le 1 (length digits) && nat_le (length digits) MOST_SIZE_DIGITS && all_ascii_digits digits
 
 -- a request of this method has a body, so it says how long that is
 abbrev pub wants_length : List ℕ → Bool
