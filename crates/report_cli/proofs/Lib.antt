@@ -1,3 +1,4 @@
 pub mod RunLemmas
 pub mod ServingLemmas
 pub mod InTurnLaws
+pub mod FollowingLaws

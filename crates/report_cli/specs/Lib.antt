@@ -1,4 +1,5 @@
 pub mod Connections
+pub mod Following
 pub mod InTurn
 pub mod Lines
 pub mod Running
