@@ -61,54 +61,30 @@ led_told s last before now leads told =
     let on = told_on (λ old new. old ≡ tables_of s → new ≡ tables_of last) before.keeper.tables now.keeper.tables (tables_of s) told leads.rows in
     on.1 ∙ ap Some (on.2 refl)
 
+-- a run that left the tables, and made no exchange, did nothing
+did_nothing : (course : Course) (before now : Seen) (s : State) → IsValid s → before.keeper.tables ≡ Some (tables_of s)
+    → Leaves before now → Makes course before now s [] s → Did course before now s
+did_nothing course before now s valid told leaves makes = record {
+  own = [];
+  last = s;
+  released = [];
+  makes = makes;
+  valid = valid;
+  told = left_as_it_was before now s told leaves;
+  answers = (refl, refl);
+}
+
 -- what one run did
 did : (course : Course) (words : List (List ℕ)) (before now : Seen) (n : ℕ) (s : State) → IsValid s
     → before.keeper.tables ≡ Some (tables_of s) → Runs course words before now n → Did course before now s
-did unread words before now n s valid told runs = record {
-  own = [];
-  last = s;
-  released = [];
-  makes = (refl, refl);
-  valid = valid;
-  told = left_as_it_was before now s told runs.0;
-  answers = (refl, refl);
-}
-did not_a_command words before now n s valid told runs = record {
-  own = [];
-  last = s;
-  released = [];
-  makes = (refl, refl);
-  valid = valid;
-  told = left_as_it_was before now s told runs.1;
-  answers = (refl, refl);
-}
-did (not_opened refusal.KeeperFault) words before now n s valid told runs = record {
-  own = [];
-  last = s;
-  released = [];
-  makes = (refl, refl);
-  valid = valid;
-  told = left_as_it_was before now s told runs.1;
-  answers = (refl, refl);
-}
-did (not_opened refusal.Memory) words before now n s valid told runs = record {
-  own = [];
-  last = s;
-  released = [];
-  makes = (refl, refl);
-  valid = valid;
-  told = left_as_it_was before now s told runs.1;
-  answers = (refl, refl);
-}
-did (not_opened (refusal.BadRow bad)) words before now n s valid told runs = record {
-  own = [];
-  last = s;
-  released = [];
-  makes = (refl, refl);
-  valid = valid;
-  told = left_as_it_was before now s told runs.1;
-  answers = (refl, refl);
-}
+did unread words before now n s valid told runs = did_nothing unread before now s valid told runs.0 (refl, refl)
+did not_a_command words before now n s valid told runs = did_nothing not_a_command before now s valid told runs.1 (refl, refl)
+did (not_opened refusal.KeeperFault) words before now n s valid told runs =
+    did_nothing (not_opened refusal.KeeperFault) before now s valid told runs.1 (refl, refl)
+did (not_opened refusal.Memory) words before now n s valid told runs =
+    did_nothing (not_opened refusal.Memory) before now s valid told runs.1 (refl, refl)
+did (not_opened (refusal.BadRow bad)) words before now n s valid told runs =
+    did_nothing (not_opened (refusal.BadRow bad)) before now s valid told runs.1 (refl, refl)
 did (answered how count) words before now n s valid told runs =
     let opened = runs.3 in
     let over = opened_over before now s opened told in
